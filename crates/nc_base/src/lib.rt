@@ -1,0 +1,19 @@
+//! What every layer of stepnc speaks in: numbers of instances, texts, lists, verdicts, and counters of steps.
+#![tactic(auto)]
+
+mod items;
+mod memory;
+mod numbers;
+mod steps;
+mod text;
+mod verdict;
+
+pub use items::ItemList;
+pub use memory::NoMemory;
+pub use numbers::{Number, NumberList};
+pub use steps::Steps;
+pub use text::NcText;
+pub use verdict::Verdict;
+
+#[cfg(test)]
+mod tests;
