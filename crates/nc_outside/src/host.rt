@@ -1,0 +1,129 @@
+//! The host's files and standard output: the trusted edge. They tell nothing of contents.
+
+ghost use Rattle.std.specs.Prelude.{◌≡◌, ℕ, ◌≤◌, ◌<◌, ◌^◌, List, None, length, vec_len, vec_capacity, OnOk, OnErr};
+ghost use Rattle.nc_outside.specs.Outside.{Rose};
+ghost use Rattle.nc_outside.specs.declared.host.TheConstants.{BLOCK};
+
+use crate::files::{FileErr, Files};
+use crate::sink::{Failed, Sink};
+use nc_base::{NcText, NoMemory};
+use std::alloc::Global;
+use std::io::{Read, Write};
+use std::{fs, rt, str};
+
+/// The files of the host. A file's name is its path, which has to be UTF-8. One count of faults serves all names.
+#[derive(Drop)]
+pub struct HostFiles<'a, R: rt::Files> {
+    host: &'a R,
+    faults: u64,
+}
+
+/// Reads the file at this path into an empty room, if it has at most `most` bytes. Takes at most one byte more.
+fn read_file<R: rt::Files>(
+    host: &R,
+    path: &[u8],
+    room: &mut Vec<u8>,
+    most: u32,
+) -> Result<(), FileErr>
+    requires { vec_len room.old ≡ 0 }
+    ensures { OnOk result (length room.new.items ≤ most) }
+{
+    let Ok(path) = str::from_utf8(path) else {
+        return Err(FileErr::Failed);
+    };
+    let Ok(mut file) = fs::open(host, path) else {
+        return Err(FileErr::Failed);
+    };
+    let mut block = [0; BLOCK];
+    while room.len() <= most as usize {
+        let wanted = (most as usize + 1 - room.len()).min(BLOCK);
+        let Ok(taken) = file.read(&mut block[..wanted]) else {
+            return Err(FileErr::Failed);
+        };
+        if taken == 0 {
+            return Ok(());
+        }
+        room.extend_from_slice(&block[..taken])?;
+    }
+    Err(FileErr::TooLong)
+}
+
+impl<'a, R: rt::Files> HostFiles<'a, R> {
+    /// The files that this host has.
+    pub fn new(host: &'a R) -> HostFiles<'a, R> {
+        HostFiles { host, faults: 0 }
+    }
+}
+
+impl<'a, R: rt::Files> Files for HostFiles<'a, R> {
+    ghost holds = { λ _ _. None };
+
+    ghost faults = { λ f _. f.faults };
+
+    fn read(&mut self, name: &NcText, room: &mut Vec<u8>, most: u32) -> Result<(), FileErr> {
+        room.clear();
+        let answer = read_file(self.host, name.bytes(), room, most);
+        if answer.is_err() {
+            room.clear();
+        }
+        if answer == Err(FileErr::Failed) {
+            self.faults = self.faults.saturating_add(1);
+        }
+        answer
+    }
+}
+
+/// How many bytes a sink of the host gathers before it writes them.
+const BLOCK: usize = 65536;
+
+/// A writer of the host, as its standard output. Pieces are gathered into blocks of 64 KiB, so that a long text isn't
+/// one system call a line: what was put last is written only by `flush`.
+#[derive(Drop)]
+pub struct HostSink<W: Write + Drop> {
+    out: W,
+    block: Vec<u8>,
+    faults: u64,
+    ghost reserved: { BLOCK ≤ vec_capacity block },
+    ghost within: { vec_len block ≤ BLOCK },
+}
+
+impl<W: Write + Drop> HostSink<W> {
+    /// A sink that writes to `out`, with room for one block.
+    pub fn new(alloc: Global, out: W) -> Result<HostSink<W>, NoMemory> {
+        Ok(HostSink {
+            out,
+            block: Vec::with_capacity(alloc, BLOCK)?,
+            faults: 0,
+        })
+    }
+
+    /// Writes what is gathered. A refusal is a fault; then the sink still holds the block.
+    pub fn flush(&mut self) -> Result<(), Failed>
+        ensures counted { self.old.faults ≤ self.new.faults }
+        ensures failed { OnErr result (Rose self.old.faults self.new.faults) }
+        ensures empty { OnOk result (vec_len self.new.block ≡ 0) }
+    {
+        let written = self.out.write_all(self.block.as_slice());
+        if written.is_err() || self.out.flush().is_err() {
+            self.faults = self.faults.saturating_add(1);
+            return Err(Failed);
+        }
+        self.block.clear();
+        Ok(())
+    }
+}
+
+impl<W: Write + Drop> Sink for HostSink<W> {
+    ghost taken = { λ _. None };
+
+    ghost faults = { λ s. s.faults };
+
+    fn put(&mut self, piece: &[u8]) -> Result<usize, Failed> {
+        if piece.len() > BLOCK - self.block.len() {
+            self.flush()?;
+        }
+        let fits = piece.len().min(BLOCK - self.block.len());
+        self.block.extend_from_slice(&piece[..fits]).unwrap();
+        Ok(fits)
+    }
+}
