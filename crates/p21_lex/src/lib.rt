@@ -3,11 +3,13 @@
 
 mod class;
 mod error;
+mod lexer;
 mod number;
 mod piece;
 mod scan;
 mod token;
 
 pub use error::LexErr;
+pub use lexer::tokens;
 pub use piece::{Piece, front};
 pub use token::{Token, TokenKind};
