@@ -1,3 +1,5 @@
 pub mod Shifts
 pub mod Values
 pub mod Loop
+pub mod Runs
+pub mod Texts
