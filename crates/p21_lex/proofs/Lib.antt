@@ -3,3 +3,4 @@ pub mod Values
 pub mod Loop
 pub mod Runs
 pub mod Texts
+pub mod Numbers
