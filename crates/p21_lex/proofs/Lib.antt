@@ -4,3 +4,4 @@ pub mod Loop
 pub mod Runs
 pub mod Texts
 pub mod Numbers
+pub mod Fronts

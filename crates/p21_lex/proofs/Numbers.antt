@@ -10,11 +10,11 @@ use Rattle.p21_lex.specs.declared.error.LexErr.TheVariants.{BadByte, NumberTooLo
 use Rattle.p21_lex.specs.declared.token.TokenKind.{TokenKind}
 use Rattle.p21_lex.specs.declared.token.TokenKind.TheVariants as kinds
 use Rattle.p21_lex.specs.declared.piece.Piece.{Piece}
-use Rattle.p21_lex.specs.declared.piece.Piece.TheVariants.{Spelling}
+use Rattle.p21_lex.specs.declared.piece.Piece.TheVariants.{Gap, Spelling}
 use Rattle.p21_lex.specs.Class.{is_digit, is_sign, Each, NotFirst}
 use Rattle.p21_lex.specs.Number.{digits_len, sign_len, int_len, exponent_len, fraction_len}
 use Rattle.p21_lex.specs.Front.{number}
-use Rattle.p21_lex.specs.Reading.{IsDigits, IsInt, IsExponent, IsReal, IsShort, begins_int, begins_exponent, Spells, Stops}
+use Rattle.p21_lex.specs.Reading.{IsDigits, IsInt, IsExponent, IsReal, IsShort, begins_int, begins_exponent, Spells, Stops, IsGap}
 use Rattle.p21_lex.proofs.Runs.{one_more, run_is, run_ends, run_within, no_run, runs, NotFirst-within, take_within}
 
 pub IsDigits-from : (xs : List ℕ) → (length xs ≡ 0 → ⊥) → Each is_digit xs → IsDigits xs
@@ -197,7 +197,10 @@ exponent_again (b ∷ bs) rest h stop none = exponent_whole b bs rest h.0 h.1 st
 
 -- ---- fractions
 
-take_nothing : (n : ℕ) → (let xs : List ℕ = [] in xs) ≡ take n []
+abbrev nothing : List ℕ
+nothing = []
+
+take_nothing : (n : ℕ) → nothing ≡ take n nothing
 take_nothing zero = refl
 take_nothing (suc n) = refl
 
@@ -311,32 +314,41 @@ has_e-append (x ∷ xs) ys h = by_first (eqb x 69) (has_e xs) (has_e (xs ++ ys))
     by_first true y z w e f = absurd cc
     by_first false y z w e f = f e
 
-abbrev answered : Piece → Result Piece LexErr
+abbrev pub answered : Piece → Result Piece LexErr
 answered p = Ok p
 
-abbrev refused : LexErr → Result Piece LexErr
+abbrev pub refused : LexErr → Result Piece LexErr
 refused e = Err e
 
-pub spelling_is : (k l : TokenKind) (m n : ℕ) → answered (Spelling k m) ≡ answered (Spelling l n) → (k ≡ l) × (m ≡ n)
-spelling_is k l m n e = (cc, cc)
+pub answer_is : (p q : Piece) → answered p ≡ answered q → p ≡ q
+answer_is p q e = cc
 
 pub refused_not : (e : LexErr) (p : Piece) → refused e ≡ answered p → ⊥
 refused_not e p h = cc
 
-number_step : (at w f c : ℕ) (kind : TokenKind) (len : ℕ) (x y : Bool) (k : TokenKind) → eqb w 0 ≡ x → ltb 38 c ≡ y
-    → cond x (refused (BadByte at)) (cond y (refused (NumberTooLong at)) (answered (Spelling k (w + f)))) ≡ answered (Spelling kind len)
-    → (w ≡ 0 → ⊥) × (c ≤ 38) × (k ≡ kind) × (w + f ≡ len)
-number_step at w f c kind len true y k ex ey e = absurd (refused_not (BadByte at) (Spelling kind len) e)
-number_step at w f c kind len false true k ex ey e = absurd (refused_not (NumberTooLong at) (Spelling kind len) e)
-number_step at w f c kind len false false k ex ey e =
-    let is = spelling_is k kind (w + f) len e in
-    (eqb-false w 0 ex, ltb-false 38 c ey, is.0, is.1)
+number_step : (at w f c : ℕ) (piece : Piece) (x y : Bool) (k : TokenKind) → eqb w 0 ≡ x → ltb 38 c ≡ y
+    → cond x (refused (BadByte at)) (cond y (refused (NumberTooLong at)) (answered (Spelling k (w + f)))) ≡ answered piece
+    → (w ≡ 0 → ⊥) × (c ≤ 38) × (Spelling k (w + f) ≡ piece)
+number_step at w f c piece true y k ex ey e = absurd (refused_not (BadByte at) piece e)
+number_step at w f c piece false true k ex ey e = absurd (refused_not (NumberTooLong at) piece e)
+number_step at w f c piece false false k ex ey e = (eqb-false w 0 ex, ltb-false 38 c ey, answer_is (Spelling k (w + f)) piece e)
 
 -- what a token found at the front is
 pub record TokenFound (kind : TokenKind) (bytes : List ℕ) (len : ℕ) : Type 0 where
   pub spelled : Spells kind (take len bytes)
   pub stopped : Stops kind (take len bytes) (drop len bytes)
   pub within : len ≤ length bytes
+
+-- what a gap found at the front is
+pub record GapFound (bytes : List ℕ) (len : ℕ) : Type 0 where
+  pub gap : IsGap (take len bytes)
+  pub within : len ≤ length bytes
+  pub filled : 0 < len
+
+-- what a piece found at the front is
+abbrev pub Found : List ℕ → Piece → Type 0
+Found bytes (Gap len) = GapFound bytes len
+Found bytes (Spelling kind len) = TokenFound kind bytes len
 
 neither : (rest : List ℕ) → NotFirst is_digit rest → NotFirst (λ b. eqb b 46) rest → NotFirst (λ b. is_digit b || eqb b 46) rest
 neither [] h k = tt
@@ -369,15 +381,15 @@ number_kind bytes w f false ez whole short is =
       within = omega (arith, found.within, whole.within, length-drop w bytes);
     }
 
-pub number_found : (at : ℕ) (bytes : List ℕ) (kind : TokenKind) (len : ℕ) → number at bytes ≡ answered (Spelling kind len) → TokenFound kind bytes len
+pub number_found : (at : ℕ) (bytes : List ℕ) (piece : Piece) → number at bytes ≡ answered piece → Found bytes piece
 unfolding number
-number_found at bytes kind len e =
+number_found at bytes piece e =
     let w = int_len bytes in
     let f = fraction_len (drop w bytes) in
     let c = count_by is_digit (take (w + f) bytes) in
-    let s = number_step at w f c kind len (eqb w 0) (ltb 38 c) (cond (eqb f 0) kinds.Int kinds.Real) refl refl e in
-    let found : TokenFound (cond (eqb f 0) kinds.Int kinds.Real) bytes (w + f) = number_kind bytes w f (eqb f 0) refl (int_found bytes s.0) s.1 refl in
-    subst (λ (k : TokenKind). TokenFound k bytes len) s.2 (subst (λ (n : ℕ). TokenFound (cond (eqb f 0) kinds.Int kinds.Real) bytes n) s.3 found)
+    let k = cond (eqb f 0) kinds.Int kinds.Real in
+    let s = number_step at w f c piece (eqb w 0) (ltb 38 c) k refl refl e in
+    subst (λ (p : Piece). Found bytes p) s.2 (number_kind bytes w f (eqb f 0) refl (int_found bytes s.0) s.1 refl)
 
 number_from : (at w f : ℕ) (bytes : List ℕ) (k : TokenKind) → int_len bytes ≡ w → fraction_len (drop w bytes) ≡ f → 0 < w → IsShort (take (w + f) bytes) → cond (eqb f 0) kinds.Int kinds.Real ≡ k
     → number at bytes ≡ answered (Spelling k (w + f))
