@@ -5,3 +5,5 @@ pub mod Runs
 pub mod Texts
 pub mod Numbers
 pub mod Fronts
+pub mod Spelled
+pub mod Whole
