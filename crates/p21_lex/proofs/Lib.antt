@@ -7,3 +7,6 @@ pub mod Numbers
 pub mod Fronts
 pub mod Spelled
 pub mod Whole
+pub mod Places
+pub mod Memory
+pub mod Names

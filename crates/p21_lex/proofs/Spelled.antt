@@ -1,25 +1,21 @@
 -- What has the form of a kind, and doesn't go on, is found at the front of a text.
-use Rattle.std.proofs.Common.{◌≡◌, ℕ, zero, suc, ◌+◌, ◌<◌, ◌≤◌, Bool, true, false, cond, eqb, leb, ◌||◌, ◌&&◌, List, [], ◌∷◌, ◌++◌, length, take, drop, get_or, Result, Ok, Err, refl, sym, ap, subst, ◌∙◌, inl, inr, append_assoc, arith}
-use Rattle.std.specs.Prelude.{IsTrue}
+use Rattle.std.proofs.Common.{◌≡◌, ℕ, suc, ◌+◌, ◌≤◌, true, false, eqb, leb, ◌||◌, List, [], ◌∷◌, ◌++◌, length, take, get_or, refl, sym, ap, subst, ◌∙◌, inl, inr, append_assoc, arith}
 use Rattle.std.specs.List.{prefix_len}
 use Rattle.std.specs.Str.Parse.{digits_value}
-use Rattle.std.proofs.lemmas.Bool.{ne_eqb, leb-true, le-leb}
+use Rattle.std.proofs.lemmas.Bool.{ne_eqb, le-leb}
 use Rattle.std.proofs.lemmas.Bool.Decides.{nat_tests}
 use Rattle.std.proofs.lemmas.List.{take_at, length-append, get_or_at}
-use Rattle.p21_lex.specs.declared.error.LexErr.{LexErr}
-use Rattle.p21_lex.specs.declared.error.LexErr.TheVariants.{BadByte, BadName}
 use Rattle.p21_lex.specs.declared.token.TokenKind.{TokenKind}
 use Rattle.p21_lex.specs.declared.token.TokenKind.TheVariants.{Word, UserWord, Name, Int, Real, Text, Enumeration, Binary, Open, Close, Comma, Semicolon, Equals, Dollar, Star}
-use Rattle.p21_lex.specs.declared.piece.Piece.{Piece}
 use Rattle.p21_lex.specs.declared.piece.Piece.TheVariants.{Gap, Spelling}
 use Rattle.p21_lex.specs.Class.{is_digit, is_sign, is_upper, is_plain, is_word, is_hex, is_blank, Each, NotFirst}
 use Rattle.p21_lex.specs.Number.{digits_len, name_value}
 use Rattle.p21_lex.specs.Scan.{text_end, binary_end, comment_end}
-use Rattle.p21_lex.specs.Front.{number, name, user_word, enumeration, closed, commented, comment, mark, marked, front}
+use Rattle.p21_lex.specs.Front.{number, name, user_word, enumeration, closed, commented, comment, mark, front}
 use Rattle.p21_lex.specs.Reading.{IsKeyword, IsDigits, IsInt, IsInside, IsComment, IsGap, Spells, Stops}
 use Rattle.p21_lex.proofs.Runs.{one_more, runs}
 use Rattle.p21_lex.proofs.Texts.{text_again, binary_again, comment_again}
-use Rattle.p21_lex.proofs.Numbers.{digits_each, answered, refused, int_number, real_again}
+use Rattle.p21_lex.proofs.Numbers.{digits_each, answered, int_number, real_again}
 
 -- the front is this token
 abbrev pub IsFront : TokenKind → List ℕ → List ℕ → Type 0
@@ -224,7 +220,7 @@ comment_front gap rest h at =
     let regrouped : (inside ++ 42 ∷ 47 ∷ []) ++ rest ≡ inside ++ 42 ∷ 47 ∷ rest = append_assoc inside (42 ∷ 47 ∷ []) rest in
     let len : 2 + suc (suc (length inside)) ≡ suc (suc (length (inside ++ 42 ∷ 47 ∷ []))) = omega (arith, length-append inside (42 ∷ 47 ∷ [])) in
     let here : front at ((47 ∷ 42 ∷ (inside ++ 42 ∷ 47 ∷ [])) ++ rest) ≡ answered (Gap (length (47 ∷ 42 ∷ (inside ++ 42 ∷ 47 ∷ [])))) =
-      front_comment at ((inside ++ 42 ∷ 47 ∷ []) ++ rest) ∙ ap (λ (t : List ℕ). commented at (comment_end t)) regrouped ∙ ap (commented at) (comment_again inside rest (h.2, h.3)) ∙ ap (λ (n : ℕ). answered (Gap n)) len in
+    front_comment at ((inside ++ 42 ∷ 47 ∷ []) ++ rest) ∙ ap (λ (t : List ℕ). commented at (comment_end t)) regrouped ∙ ap (commented at) (comment_again inside rest (h.2, h.3)) ∙ ap (λ (n : ℕ). answered (Gap n)) len in
     subst (λ (t : List ℕ). front at (t ++ rest) ≡ answered (Gap (length t))) (sym h.1) here
 
 pub gap_front : (gap rest : List ℕ) → IsGap gap → IsGapFront gap rest

@@ -1,10 +1,8 @@
 -- The two laws of reading: the tokens of a text read it, and what reads a text is its tokens.
-use Rattle.std.proofs.Common.{◌≡◌, ℕ, zero, suc, ◌+◌, ◌-◌, ◌<◌, ◌≤◌, Bool, true, false, List, [], ◌∷◌, ◌++◌, length, take, drop, All, Result, Ok, Err, refl, sym, ap, subst, ◌∙◌, inl, inr, append_assoc, arith}
+use Rattle.std.proofs.Common.{◌≡◌, ℕ, zero, suc, ◌+◌, ◌<◌, ◌≤◌, Bool, List, [], ◌∷◌, ◌++◌, length, take, drop, Result, Ok, Err, refl, sym, ap, subst, ◌∙◌, inl, inr, append_assoc, arith}
 use Rattle.std.specs.List.{concat, AllByRecursion}
-use Rattle.std.proofs.lemmas.List.{append-nil, take-append-drop, drop_at, take_at, length-append, length-drop}
-use Rattle.std.proofs.lemmas.List.Elements.{All-from_recursion}
+use Rattle.std.proofs.lemmas.List.{append-nil, take-append-drop, drop_at, length-append, length-drop}
 use Rattle.p21_lex.specs.declared.error.LexErr.{LexErr}
-use Rattle.p21_lex.specs.declared.error.LexErr.TheVariants.{BadByte, BadName, OpenString, OpenComment, NumberTooLong, NoMemory}
 use Rattle.p21_lex.specs.declared.token.TokenKind.{TokenKind}
 use Rattle.p21_lex.specs.declared.token.TokenKind.TheVariants.{Word, UserWord, Name, Int, Real, Text, Enumeration, Binary, Open, Close, Comma, Semicolon, Equals, Dollar, Star}
 use Rattle.p21_lex.specs.declared.token.Token.{Token}
@@ -13,9 +11,9 @@ use Rattle.p21_lex.specs.declared.piece.Piece.TheVariants.{Gap, Spelling}
 use Rattle.p21_lex.specs.Front.{front, piece_len}
 use Rattle.p21_lex.specs.Tokens.{token_at, with_front, piece_tokens, tokens_behind, tokens_in, tokens_of}
 use Rattle.p21_lex.specs.Class.{is_word}
-use Rattle.p21_lex.specs.Reading.{IsKeyword, IsInt, IsReal, IsGap, Spells, Stops, Reads, IsToken}
+use Rattle.p21_lex.specs.Reading.{IsKeyword, IsInt, IsReal, IsGap, Spells, Reads}
 use Rattle.p21_lex.proofs.Runs.{take_within}
-use Rattle.p21_lex.proofs.Numbers.{Found, TokenFound, GapFound, answered, refused}
+use Rattle.p21_lex.proofs.Numbers.{Found, TokenFound, answered}
 use Rattle.p21_lex.proofs.Fronts.{front_found}
 use Rattle.p21_lex.proofs.Loop.{unrolled, nothing_left}
 use Rattle.p21_lex.proofs.Spelled.{spelled_front, gap_front}
@@ -120,7 +118,7 @@ found_in zero at (b ∷ bs) ts enough e = absurd (omega arith)
 found_in (suc steps) at [] ts enough e = subst (λ (us : List Token). Reads at us []) (listed_is [] ts e) (reads_nothing at)
 found_in (suc steps) at (b ∷ bs) ts enough e =
     found_step at b bs ts (λ len. tokens_in steps (at + len) (drop len (b ∷ bs))) (front at (b ∷ bs)) refl e
-      (λ len us some h. found_in steps (at + len) (drop len (b ∷ bs)) us (omega (arith, length-drop len (b ∷ bs))) h)
+    (λ len us some h. found_in steps (at + len) (drop len (b ∷ bs)) us (omega (arith, length-drop len (b ∷ bs))) h)
 
 -- The tokens of a text read it.
 pub found : (bytes : List ℕ) (ts : List Token) → tokens_of bytes ≡ listed ts → Reads 0 ts bytes
@@ -149,7 +147,7 @@ only_gaps [] steps at rest ts here enough more = let same : at + 0 ≡ at = omeg
 only_gaps (gap ∷ gaps) steps at rest ts here enough more =
     let parts : (gap ++ concat gaps) ++ rest ≡ gap ++ (concat gaps ++ rest) = append_assoc gap (concat gaps) rest in
     let behind : (s : ℕ) → length (concat gaps ++ rest) ≤ s → tokens_in s (at + length gap) (concat gaps ++ rest) ≡ listed ts = λ s room. only_gaps gaps s (at + length gap) rest ts here.1 room
-      (λ k wide. let place : at + length gap + length (concat gaps) ≡ at + length (gap ++ concat gaps) = omega (arith, length-append gap (concat gaps)) in rw place (more k wide)) in
+    (λ k wide. let place : at + length gap + length (concat gaps) ≡ at + length (gap ++ concat gaps) = omega (arith, length-append gap (concat gaps)) in rw place (more k wide)) in
     rw parts (only_piece steps at gap (concat gaps ++ rest) (Gap (length gap)) ts (gap_front gap (concat gaps ++ rest) here.0 at) refl (gap_some gap here.0) (rw (← parts) enough) behind)
 
 token_is : (t : Token) (start len : ℕ) → t.start ≡ start → t.end ≡ t.start + len → token_at start t.kind len ≡ t
