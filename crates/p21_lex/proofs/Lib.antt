@@ -10,3 +10,4 @@ pub mod Whole
 pub mod Places
 pub mod Memory
 pub mod Names
+pub mod Longest

@@ -1,10 +1,11 @@
 //! The tokens of a whole text.
 
-ghost use Rattle.std.specs.Prelude.{◌≡◌, ◌≢◌, ◌↔◌, ℕ, ◌≤◌, ◌+◌, ◌++◌, List, length, Ok, Err, OnOk, IfOk, IfErr, All, AllPairs};
+ghost use Rattle.std.specs.Prelude.{◌≡◌, ◌≢◌, ◌↔◌, ℕ, ◌≤◌, ◌+◌, ◌++◌, List, [], length, Ok, Err, OnOk, IfOk, IfErr, All, AllPairs};
 ghost use Rattle.p21_lex.specs.Front.{piece_len};
-ghost use Rattle.p21_lex.specs.Reading.{Reads, IsToken};
+ghost use Rattle.p21_lex.specs.Reading.{Reads, IsToken, Spells, Stops};
 ghost use Rattle.p21_lex.specs.Tokens.{Gives, piece_tokens, tokens_of};
 ghost use Rattle.p21_lex.specs.declared.token.Token.{Token};
+ghost use Rattle.p21_lex.specs.declared.token.TokenKind.{TokenKind};
 
 use crate::error::LexErr;
 use crate::piece::{Piece, front};
@@ -81,9 +82,13 @@ pub fn tokens_fit(bytes: &[u8], tokens: &[Token])
     ensures ordered { AllPairs (λ t u. t.end ≤ u.start) tokens.now }
 {}
 
-/// The law of reading: a token list is that of a text exactly where it reads the text, and no text is refused for want of
-/// memory. It does nothing.
-pub fn reading_law()
+/// The laws of reading: a token list is that of a text exactly where it reads the text, no text is refused for want of
+/// memory, and where a spelling stops no longer front of the text spells a token. It does nothing.
+pub fn reading_laws()
     ensures same { (bytes : List ℕ) (ts : List Token) → (tokens_of bytes ≡ Ok ts) ↔ Reads 0 ts bytes }
+    ensures longest {
+        (kind other : TokenKind) (text more rest : List ℕ)
+        → Spells kind text → Stops kind text (more ++ rest) → Spells other (text ++ more) → more ≡ []
+    }
     ensures memory { (bytes : List ℕ) → tokens_of bytes ≢ Err LexErr.NoMemory }
 {}

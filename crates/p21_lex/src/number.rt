@@ -54,8 +54,8 @@ pub fn fraction_len(bytes: &[u8]) -> usize
     1 + digits + exponent_len(&rest[digits..])
 }
 
-#[tactic(auto, using(crate::proofs::Values::capped_more))]
 /// The value of digits, or the first number that is too great for a name where the value is greater still.
+#[tactic(auto, using(crate::proofs::Values::capped_more))]
 pub fn capped_value(digits: &[u8]) -> u64
     requires { All (λ b. IsTrue (is_digit b)) digits.now }
     ensures { result ≡ min (digits_value 10 digits.now) 2147483648 }

@@ -1,6 +1,0 @@
-use Rattle.p21_lex.proofs.Whole.{found, only}
-use Rattle.p21_lex.proofs.Memory.{no_want}
-use Rattle.p21_lex.proofs.lexer.reading_law.Goals as goal
-
-pub returns : goal.returns
-returns c = record { same = λ bytes ts. (found bytes ts, only bytes ts); memory = no_want }
