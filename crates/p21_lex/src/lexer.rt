@@ -86,9 +86,7 @@ pub fn tokens_fit(bytes: &[u8], tokens: &[Token])
 /// memory, and where a spelling stops no longer front of the text spells a token. It does nothing.
 pub fn reading_laws()
     ensures same { (bytes : List ℕ) (ts : List Token) → (tokens_of bytes ≡ Ok ts) ↔ Reads 0 ts bytes }
-    ensures longest {
-        (kind other : TokenKind) (text more rest : List ℕ)
-        → Spells kind text → Stops kind text (more ++ rest) → Spells other (text ++ more) → more ≡ []
-    }
+    ensures longest { (kind other : TokenKind) (text more rest : List ℕ)
+        → Spells kind text → Stops kind text (more ++ rest) → Spells other (text ++ more) → more ≡ [] }
     ensures memory { (bytes : List ℕ) → tokens_of bytes ≢ Err LexErr.NoMemory }
 {}

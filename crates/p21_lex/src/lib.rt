@@ -14,3 +14,6 @@ pub use lexer::{reading_laws, tokens, tokens_fit};
 pub use number::name_number;
 pub use piece::{Piece, front};
 pub use token::{Token, TokenKind};
+
+#[cfg(test)]
+mod tests;
