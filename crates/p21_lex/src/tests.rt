@@ -11,7 +11,7 @@ use std::test::Fail;
 // The tokens of a text by kind and places, none where it is refused, and the refusal.
 type Row<'a> = (&'a [u8], &'a [(TokenKind, u32, u32)], Option<LexErr>);
 
-const ROWS: [Row<'static>; 60] = [
+const WORDS: [Row<'static>; 20] = [
     // Words, and blanks and comments between them.
     (b"", &[], None),
     (b" \t\r\n", &[], None),
@@ -50,6 +50,9 @@ const ROWS: [Row<'static>; 60] = [
         None,
     ),
     (b"(&", &[], Some(BadByte(1))),
+];
+
+const NUMBERS: [Row<'static>; 24] = [
     // Names.
     (
         b"#1=#02",
@@ -108,6 +111,9 @@ const ROWS: [Row<'static>; 60] = [
         &[],
         Some(NumberTooLong(0)),
     ),
+];
+
+const TEXTS: [Row<'static>; 16] = [
     // Texts.
     (b"''", &[(Text, 0, 2)], None),
     (b"''''", &[(Text, 0, 4)], None),
@@ -175,8 +181,18 @@ fn expect_rows(rt: &impl Abort, alloc: Global, rows: &[Row<'static>]) {
 }
 
 #[test]
-fn rows(rt: HostRuntime) {
-    expect_rows(&rt, rt.alloc(), &ROWS);
+fn words(rt: HostRuntime) {
+    expect_rows(&rt, rt.alloc(), &WORDS);
+}
+
+#[test]
+fn numbers(rt: HostRuntime) {
+    expect_rows(&rt, rt.alloc(), &NUMBERS);
+}
+
+#[test]
+fn texts(rt: HostRuntime) {
+    expect_rows(&rt, rt.alloc(), &TEXTS);
 }
 
 #[test]
