@@ -11,3 +11,4 @@ pub mod Places
 pub mod Memory
 pub mod Names
 pub mod Longest
+pub mod Pieces
