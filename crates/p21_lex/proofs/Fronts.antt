@@ -128,7 +128,7 @@ commented_found at bs piece (Ok n) has e =
     let c = comment_closes bs n has in
     let len : 2 + n ≡ suc (suc n) = omega arith in
     let here : GapFound (47 ∷ 42 ∷ bs) (2 + n) = rw len (record {
-      gap = inr (c.inside, ap (λ (ys : List ℕ). 47 ∷ 42 ∷ ys) c.parts, c.passes.0, c.passes.1);
+      gap = inr (c.inside, ap (λ (ys : List ℕ). 47 ∷ 42 ∷ ys) c.parts, c.passes);
       within = omega (arith, c.within);
       filled = omega arith;
     }) in

@@ -12,3 +12,4 @@ pub mod Memory
 pub mod Names
 pub mod Longest
 pub mod Pieces
+pub mod Faults

@@ -220,7 +220,7 @@ comment_front gap rest h at =
     let regrouped : (inside ++ 42 ∷ 47 ∷ []) ++ rest ≡ inside ++ 42 ∷ 47 ∷ rest = append_assoc inside (42 ∷ 47 ∷ []) rest in
     let len : 2 + suc (suc (length inside)) ≡ suc (suc (length (inside ++ 42 ∷ 47 ∷ []))) = omega (arith, length-append inside (42 ∷ 47 ∷ [])) in
     let here : front at ((47 ∷ 42 ∷ (inside ++ 42 ∷ 47 ∷ [])) ++ rest) ≡ answered (Gap (length (47 ∷ 42 ∷ (inside ++ 42 ∷ 47 ∷ [])))) =
-    front_comment at ((inside ++ 42 ∷ 47 ∷ []) ++ rest) ∙ ap (λ (t : List ℕ). commented at (comment_end t)) regrouped ∙ ap (commented at) (comment_again inside rest (h.2, h.3)) ∙ ap (λ (n : ℕ). answered (Gap n)) len in
+    front_comment at ((inside ++ 42 ∷ 47 ∷ []) ++ rest) ∙ ap (λ (t : List ℕ). commented at (comment_end t)) regrouped ∙ ap (commented at) (comment_again inside rest h.2) ∙ ap (λ (n : ℕ). answered (Gap n)) len in
     subst (λ (t : List ℕ). front at (t ++ rest) ≡ answered (Gap (length t))) (sym h.1) here
 
 pub gap_front : (gap rest : List ℕ) → IsGap gap → IsGapFront gap rest

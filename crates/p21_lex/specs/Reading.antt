@@ -98,9 +98,13 @@ abbrev pub has_end : List ℕ → Bool
 has_end [] = false
 has_end (b ∷ bs) = starts_with nat_eq (b ∷ bs) (42 ∷ 47 ∷ []) || has_end bs
 
--- a comment: its marks, and legal bytes between them with no closing mark
+-- the inside of a comment: legal bytes with no closing mark
+abbrev pub IsCommentInside : List ℕ → Type 0
+IsCommentInside inside = Each is_legal inside × (has_end inside ≡ false)
+
+-- a comment
 abbrev pub IsComment : List ℕ → Type 0
-IsComment text = (inside : List ℕ) × (text ≡ 47 ∷ 42 ∷ (inside ++ 42 ∷ 47 ∷ [])) × Each is_legal inside × (has_end inside ≡ false)
+IsComment text = (inside : List ℕ) × (text ≡ 47 ∷ 42 ∷ (inside ++ 42 ∷ 47 ∷ [])) × IsCommentInside inside
 
 -- what stands between tokens: one blank, or one whole comment
 abbrev pub IsGap : List ℕ → Type 0
