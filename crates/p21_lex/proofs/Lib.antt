@@ -13,3 +13,4 @@ pub mod Names
 pub mod Longest
 pub mod Pieces
 pub mod Faults
+pub mod Refused

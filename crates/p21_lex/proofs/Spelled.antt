@@ -15,7 +15,7 @@ use Rattle.p21_lex.specs.Front.{number, name, user_word, enumeration, closed, co
 use Rattle.p21_lex.specs.Reading.{IsKeyword, IsDigits, IsInt, IsInside, IsComment, IsGap, Spells, Stops}
 use Rattle.p21_lex.proofs.Runs.{one_more, runs}
 use Rattle.p21_lex.proofs.Texts.{text_again, binary_again, comment_again}
-use Rattle.p21_lex.proofs.Numbers.{digits_each, answered, int_number, real_again}
+use Rattle.p21_lex.proofs.Numbers.{digits_each, answered, int_number, real_number}
 
 -- the front is this token
 abbrev pub IsFront : TokenKind → List ℕ → List ℕ → Type 0
@@ -32,7 +32,7 @@ word_again [] rest spelled stopped at = absurd spelled
 word_again (b ∷ bs) rest spelled stopped at =
     front_upper at b (bs ++ rest) spelled.0 ∙ ap (λ (n : ℕ). answered (Spelling Word (1 + n))) (runs is_word bs rest spelled.1 stopped) ∙ ap (λ (n : ℕ). answered (Spelling Word n)) (one_more (length bs))
 
-front_user : (at : ℕ) (bs : List ℕ) → front at (33 ∷ bs) ≡ user_word at bs
+pub front_user : (at : ℕ) (bs : List ℕ) → front at (33 ∷ bs) ≡ user_word at bs
 unfolding front
 front_user at bs = refl
 
@@ -48,11 +48,11 @@ user_word_again (b ∷ bs) rest h stop at =
 
 -- ---- names
 
-front_name : (at : ℕ) (bs : List ℕ) → front at (35 ∷ bs) ≡ name at bs
+pub front_name : (at : ℕ) (bs : List ℕ) → front at (35 ∷ bs) ≡ name at bs
 unfolding front
 front_name at bs = refl
 
-digits_filled : (xs : List ℕ) → IsDigits xs → eqb (length xs) 0 ≡ false
+pub digits_filled : (xs : List ℕ) → IsDigits xs → eqb (length xs) 0 ≡ false
 digits_filled [] h = absurd h
 digits_filled (x ∷ xs) h = ne_eqb (suc (length xs)) 0 (λ (e : suc (length xs) ≡ 0). omega arith)
 
@@ -71,7 +71,7 @@ name_again digits rest h low high stop at =
 
 -- ---- numbers
 
-front_number : (at b : ℕ) (bs : List ℕ) → (is_sign b || is_digit b) ≡ true → front at (b ∷ bs) ≡ number at (b ∷ bs)
+pub front_number : (at b : ℕ) (bs : List ℕ) → (is_sign b || is_digit b) ≡ true → front at (b ∷ bs) ≡ number at (b ∷ bs)
 unfolding front
 front_number at b bs begins =
     let solid : is_blank b ≡ false = grind (arith, nat_tests) in
@@ -98,7 +98,7 @@ real_front text rest spelled stopped at =
     let tail : List ℕ = 46 ∷ (r.fraction ++ r.exponent) in
     let regrouped : text ++ rest ≡ r.whole ++ (tail ++ rest) = ap (λ (t : List ℕ). t ++ rest) r.parts ∙ append_assoc r.whole tail rest in
     let begins : front at (text ++ rest) ≡ number at (text ++ rest) = ap (front at) regrouped ∙ int_begins r.whole (tail ++ rest) at r.is_whole ∙ sym (ap (number at) regrouped) in
-    begins ∙ real_again at text rest spelled stopped
+    begins ∙ real_number at text rest spelled stopped
 
 -- ---- what is closed
 
@@ -108,7 +108,7 @@ regroup_mark inside rest byte = append_assoc inside (byte ∷ []) rest
 length_mark : (inside : List ℕ) (byte : ℕ) → suc (length inside) ≡ length (inside ++ byte ∷ [])
 length_mark inside byte = omega (arith, length-append inside (byte ∷ []))
 
-front_text : (at : ℕ) (bs : List ℕ) → front at (39 ∷ bs) ≡ closed Text at (text_end bs)
+pub front_text : (at : ℕ) (bs : List ℕ) → front at (39 ∷ bs) ≡ closed Text at (text_end bs)
 unfolding front
 front_text at bs = refl
 
@@ -117,7 +117,7 @@ text_front inside rest h stop at =
     front_text at ((inside ++ 39 ∷ []) ++ rest) ∙ ap (λ (t : List ℕ). closed Text at (text_end t)) (regroup_mark inside rest 39) ∙ ap (closed Text at) (text_again inside rest h stop)
     ∙ ap (λ (n : ℕ). answered (Spelling Text n)) (one_more (suc (length inside)) ∙ ap suc (length_mark inside 39))
 
-front_binary : (at : ℕ) (bs : List ℕ) → front at (34 ∷ bs) ≡ closed Binary at (binary_end bs)
+pub front_binary : (at : ℕ) (bs : List ℕ) → front at (34 ∷ bs) ≡ closed Binary at (binary_end bs)
 unfolding front
 front_binary at bs = refl
 
@@ -126,11 +126,11 @@ binary_front inside rest h at =
     front_binary at ((inside ++ 34 ∷ []) ++ rest) ∙ ap (λ (t : List ℕ). closed Binary at (binary_end t)) (regroup_mark inside rest 34) ∙ ap (closed Binary at) (binary_again inside rest h)
     ∙ ap (λ (n : ℕ). answered (Spelling Binary n)) (one_more (suc (length inside)) ∙ ap suc (length_mark inside 34))
 
-front_enumeration : (at : ℕ) (bs : List ℕ) → front at (46 ∷ bs) ≡ enumeration at bs
+pub front_enumeration : (at : ℕ) (bs : List ℕ) → front at (46 ∷ bs) ≡ enumeration at bs
 unfolding front
 front_enumeration at bs = refl
 
-enumeration_at : (at b n : ℕ) (bs : List ℕ) → is_upper b ≡ true → prefix_len is_plain bs ≡ n → get_or bs n 0 ≡ 46 → enumeration at (b ∷ bs) ≡ answered (Spelling Enumeration (3 + n))
+pub enumeration_at : (at b n : ℕ) (bs : List ℕ) → is_upper b ≡ true → prefix_len is_plain bs ≡ n → get_or bs n 0 ≡ 46 → enumeration at (b ∷ bs) ≡ answered (Spelling Enumeration (3 + n))
 unfolding enumeration
 enumeration_at at b n bs upper run point = rw (upper, run, point) refl
 
@@ -210,7 +210,7 @@ front_blank : (at b : ℕ) (bs : List ℕ) → is_blank b ≡ true → front at 
 unfolding front
 front_blank at b bs blank = rw blank refl
 
-front_comment : (at : ℕ) (bs : List ℕ) → front at (47 ∷ 42 ∷ bs) ≡ commented at (comment_end bs)
+pub front_comment : (at : ℕ) (bs : List ℕ) → front at (47 ∷ 42 ∷ bs) ≡ commented at (comment_end bs)
 unfolding front comment
 front_comment at bs = refl
 
