@@ -54,9 +54,6 @@ user_word_found at (b ∷ bs) piece e =
 in_range : (v : ℕ) → (leb 1 v && leb v 2147483647) ≡ true → (1 ≤ v) × (v ≤ 2147483647)
 in_range v h = let p = and_parts (leb 1 v) (leb v 2147483647) h in (leb-true 1 v p.0, leb-true v 2147483647 p.1)
 
-pub in_range_again : (v : ℕ) → 1 ≤ v → v ≤ 2147483647 → (leb 1 v && leb v 2147483647) ≡ true
-in_range_again v low high = let l : leb 1 v ≡ true = le-leb 1 v low in let h : leb v 2147483647 ≡ true = le-leb v 2147483647 high in rw (l, h) refl
-
 name_found : (at : ℕ) (bs : List ℕ) (piece : Piece) → name at bs ≡ answered piece → Found (35 ∷ bs) piece
 unfolding name
 name_found at bs piece e =

@@ -104,7 +104,7 @@ int_again (b ∷ bs) rest (inr h) stop =
 none_cond : (n : ℕ) → cond (eqb n 0) 0 (1 + n) ≡ 0 → n ≡ 0
 none_cond n h = grind (arith, nat_tests)
 
-begins_none : (b : ℕ) (bs : List ℕ) → is_digit b ≡ false → (is_sign b ≡ true → NotFirst is_digit bs) → begins_int (b ∷ bs) ≡ false
+pub begins_none : (b : ℕ) (bs : List ℕ) → is_digit b ≡ false → (is_sign b ≡ true → NotFirst is_digit bs) → begins_int (b ∷ bs) ≡ false
 begins_none b [] plain behind = plain
 begins_none b (c ∷ cs) plain behind = by_sign (is_sign b) refl
   where

@@ -12,7 +12,7 @@ use Rattle.p21_lex.specs.Class.{is_digit, is_sign, is_upper, is_plain, is_word, 
 use Rattle.p21_lex.specs.Number.{digits_len, name_value}
 use Rattle.p21_lex.specs.Scan.{text_end, binary_end, comment_end}
 use Rattle.p21_lex.specs.Front.{number, name, user_word, enumeration, closed, commented, comment, mark, front}
-use Rattle.p21_lex.specs.Reading.{IsKeyword, IsDigits, IsInt, IsInside, IsComment, IsGap, Spells, Stops}
+use Rattle.p21_lex.specs.Reading.{IsKeyword, IsDigits, IsInt, IsReal, IsInside, IsComment, IsGap, Spells, Stops}
 use Rattle.p21_lex.proofs.Runs.{one_more, runs}
 use Rattle.p21_lex.proofs.Texts.{text_again, binary_again, comment_again}
 use Rattle.p21_lex.proofs.Numbers.{digits_each, answered, int_number, real_number}
@@ -78,7 +78,7 @@ front_number at b bs begins =
     let lower : is_upper b ≡ false = grind (arith, nat_tests) in
     rw (solid, lower, begins) refl
 
-int_begins : (xs rest : List ℕ) (at : ℕ) → IsInt xs → front at (xs ++ rest) ≡ number at (xs ++ rest)
+pub int_begins : (xs rest : List ℕ) (at : ℕ) → IsInt xs → front at (xs ++ rest) ≡ number at (xs ++ rest)
 int_begins [] rest at h = absurd h
 int_begins (b ∷ bs) rest at (inl h) = front_number at b (bs ++ rest) (digit_begins b h.0)
   where
@@ -92,13 +92,14 @@ int_begins (b ∷ bs) rest at (inr h) = front_number at b (bs ++ rest) (sign_beg
 int_front : (text rest : List ℕ) → Spells Int text → Stops Int text rest → IsFront Int text rest
 int_front text rest spelled stopped at = int_begins text rest at spelled.0 ∙ int_number at text rest spelled stopped
 
-real_front : (text rest : List ℕ) → Spells Real text → Stops Real text rest → IsFront Real text rest
-real_front text rest spelled stopped at =
-    let r = spelled.0 in
+pub real_begins : (text rest : List ℕ) (at : ℕ) → IsReal text → front at (text ++ rest) ≡ number at (text ++ rest)
+real_begins text rest at r =
     let tail : List ℕ = 46 ∷ (r.fraction ++ r.exponent) in
     let regrouped : text ++ rest ≡ r.whole ++ (tail ++ rest) = ap (λ (t : List ℕ). t ++ rest) r.parts ∙ append_assoc r.whole tail rest in
-    let begins : front at (text ++ rest) ≡ number at (text ++ rest) = ap (front at) regrouped ∙ int_begins r.whole (tail ++ rest) at r.is_whole ∙ sym (ap (number at) regrouped) in
-    begins ∙ real_number at text rest spelled stopped
+    ap (front at) regrouped ∙ int_begins r.whole (tail ++ rest) at r.is_whole ∙ sym (ap (number at) regrouped)
+
+real_front : (text rest : List ℕ) → Spells Real text → Stops Real text rest → IsFront Real text rest
+real_front text rest spelled stopped at = real_begins text rest at spelled.0 ∙ real_number at text rest spelled stopped
 
 -- ---- what is closed
 
