@@ -1,0 +1,92 @@
+//! The tokens of a whole text.
+
+ghost use Rattle.std.specs.Prelude.{◌≡◌, ◌≢◌, ◌↔◌, ℕ, ◌≤◌, ◌+◌, ◌++◌, List, [], length, Ok, Err, OnOk, IfOk, IfErr, All, AllPairs};
+ghost use Rattle.p21_lex.specs.Front.{piece_len};
+ghost use Rattle.p21_lex.specs.Reading.{Reads, IsToken, Spells, Stops};
+ghost use Rattle.p21_lex.specs.Tokens.{Gives, piece_tokens, tokens_of};
+ghost use Rattle.p21_lex.specs.declared.token.Token.{Token};
+ghost use Rattle.p21_lex.specs.declared.token.TokenKind.{TokenKind};
+
+use crate::error::LexErr;
+use crate::piece::{Piece, front};
+use crate::token::Token;
+use std::alloc::Global;
+
+impl Piece {
+    fn len(self) -> usize
+        ensures { result ≡ piece_len self }
+    {
+        match self {
+            Piece::Gap(len) => len,
+            Piece::Spelling(_, len) => len,
+        }
+    }
+}
+
+/// Adds the token of a piece that lies at a place; a gap adds none.
+fn add(found: &mut Vec<Token>, at: u32, piece: Piece) -> Result<(), LexErr>
+    requires { at + piece_len piece ≤ 268435456 }
+    ensures added { OnOk result (found.new.items ≡ found.old.items ++ piece_tokens at piece) }
+    ensures memory { IfErr result (λ e. e ≡ LexErr.NoMemory) }
+{
+    if let Piece::Spelling(kind, len) = piece {
+        found.push(Token {
+            kind,
+            start: at,
+            end: at + len as u32,
+        })?;
+    }
+    Ok(())
+}
+
+fn all(alloc: Global, bytes: &[u8]) -> Result<Vec<Token>, LexErr>
+    requires { length bytes.now ≤ 268435456 }
+    ensures { Gives (λ v. v.items) result (tokens_of bytes.now) }
+{
+    let mut found = Vec::new(alloc);
+    let mut at: u32 = 0;
+    let mut rest = bytes;
+    while !rest.is_empty() {
+        let piece = front(at, rest)?;
+        let len = piece.len();
+        add(&mut found, at, piece)?;
+        at += len as u32;
+        rest = &rest[len..];
+    }
+    Ok(found)
+}
+
+/// The tokens of a text (ISO 10303-21, clear text encoding) in their order, each as long as its form allows; blanks and
+/// comments between them are left out. The error is the first from left to right.
+pub fn tokens(alloc: Global, bytes: &[u8]) -> Result<Vec<Token>, LexErr>
+    requires { length bytes.now ≤ 268435456 }
+    // What is found reads the text.
+    ensures found { IfOk result (λ v. Reads 0 v.items bytes.now) }
+    // What reads the text is found, unless memory runs out.
+    ensures only { (ts : List Token) → Reads 0 ts bytes.now → Gives (λ v. v.items) result (Ok ts) }
+    // Which error it is.
+    ensures exact { Gives (λ v. v.items) result (tokens_of bytes.now) }
+
+    // Where the tokens lie.
+    ensures inside { IfOk result (λ v. All (IsToken bytes.now) v.items) }
+    ensures ordered { IfOk result (λ v. AllPairs (λ t u. t.end ≤ u.start) v.items) }
+{
+    all(alloc, bytes)
+}
+
+/// What holds of the tokens of a text, for a caller that has them from elsewhere. It does nothing.
+pub fn tokens_fit(bytes: &[u8], tokens: &[Token])
+    requires { tokens_of bytes.now ≡ Ok tokens.now }
+    ensures found { Reads 0 tokens.now bytes.now }
+    ensures inside { All (IsToken bytes.now) tokens.now }
+    ensures ordered { AllPairs (λ t u. t.end ≤ u.start) tokens.now }
+{}
+
+/// The laws of reading: a token list is that of a text exactly where it reads the text, no text is refused for want of
+/// memory, and where a spelling stops no longer front of the text spells a token. It does nothing.
+pub fn reading_laws()
+    ensures same { (bytes : List ℕ) (ts : List Token) → (tokens_of bytes ≡ Ok ts) ↔ Reads 0 ts bytes }
+    ensures longest { (kind other : TokenKind) (text more rest : List ℕ)
+        → Spells kind text → Stops kind text (more ++ rest) → Spells other (text ++ more) → more ≡ [] }
+    ensures memory { (bytes : List ℕ) → tokens_of bytes ≢ Err LexErr.NoMemory }
+{}
