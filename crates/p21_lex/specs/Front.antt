@@ -90,3 +90,8 @@ front at (b ∷ bs) =
     else (if b == 34 then closed kinds.Binary at (binary_end bs)
     else (if b == 47 then comment at bs
     else marked at (mark b)))))))))
+
+-- how many bytes a piece takes
+abbrev pub piece_len : Piece → ℕ
+piece_len (Gap len) = len
+piece_len (Spelling kind len) = len

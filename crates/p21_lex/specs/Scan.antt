@@ -1,5 +1,5 @@
 -- Where a text, a binary and a comment end: so many bytes behind the opening mark, up to the closing mark and with it.
-use Rattle.std.specs.Prelude.{ℕ, ◌+◌, Bool, true, false, ◌==◌, nat_eq, if◌then◌else◌, List, [], ◌∷◌, Result, Ok, Err}
+use Rattle.std.specs.Prelude.{ℕ, ◌+◌, ◌<◌, Bool, true, false, ◌==◌, nat_eq, if◌then◌else◌, List, [], ◌∷◌, Result, Ok, Err}
 use Rattle.std.specs.List.{starts_with}
 use Rattle.p21_lex.specs.declared.scan.Unclosed.{Unclosed}
 use Rattle.p21_lex.specs.declared.scan.Unclosed.TheVariants.{Cut, Bad}
@@ -30,3 +30,8 @@ comment_end [] = Err Cut
 comment_end (b ∷ bs) =
     if starts_with nat_eq (b ∷ bs) (42 ∷ 47 ∷ []) then Ok 2
     else (if is_legal b then shifted 1 (comment_end bs) else Err (Bad 0))
+
+-- The byte that may not stand there is one of so many.
+abbrev pub IsBelow : ℕ → Unclosed → Type 0
+IsBelow len Cut = Unit {0}
+IsBelow len (Bad k) = k < len

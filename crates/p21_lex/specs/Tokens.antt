@@ -6,7 +6,7 @@ use Rattle.p21_lex.specs.declared.token.TokenKind.{TokenKind}
 use Rattle.p21_lex.specs.declared.token.Token.{Token}
 use Rattle.p21_lex.specs.declared.piece.Piece.{Piece}
 use Rattle.p21_lex.specs.declared.piece.Piece.TheVariants.{Gap, Spelling}
-use Rattle.p21_lex.specs.Front.{front}
+use Rattle.p21_lex.specs.Front.{front, piece_len}
 
 -- a token of so many bytes from a place on
 abbrev pub token_at : ℕ → TokenKind → ℕ → Token
@@ -17,11 +17,15 @@ abbrev pub with_front : List Token → Result (List Token) LexErr → Result (Li
 with_front ts (Ok us) = Ok (ts ++ us)
 with_front ts (Err e) = Err e
 
--- a piece's token, and then the tokens of what stands so many bytes on
+-- the token of a piece at a place; a gap has none
+abbrev pub piece_tokens : ℕ → Piece → List Token
+piece_tokens at (Gap len) = []
+piece_tokens at (Spelling kind len) = token_at at kind len ∷ []
+
+-- a piece's token, and then the tokens of what stands behind the piece
 abbrev pub tokens_behind : ℕ → Result Piece LexErr → (ℕ → Result (List Token) LexErr) → Result (List Token) LexErr
 tokens_behind at (Err e) rest = Err e
-tokens_behind at (Ok (Gap len)) rest = rest len
-tokens_behind at (Ok (Spelling kind len)) rest = with_front (token_at at kind len ∷ []) (rest len)
+tokens_behind at (Ok piece) rest = with_front (piece_tokens at piece) (rest (piece_len piece))
 
 -- The tokens of bytes from a place on, in so many pieces at most. Each piece takes a byte at least, so as many as there are bytes are enough.
 unfoldable pub tokens_in : ℕ → ℕ → List ℕ → Result (List Token) LexErr
