@@ -1,10 +1,14 @@
 -- What stands at the front of symbols in a plain file, and the symbols behind it; None where no such thing stands there.
-use Rattle.std.specs.Prelude.{◌≡◌, ℕ, zero, suc, ◌+◌, Bool, true, false, ◌==◌, if◌then◌else◌, List, [], ◌∷◌, length, Option, Some, None, Result, Ok, Err, codes}
+use Rattle.std.specs.Prelude.{◌≡◌, ℕ, zero, suc, ◌+◌, ◌<◌, Bool, true, false, ◌==◌, if◌then◌else◌, List, [], ◌∷◌, length, Option, Some, None, Result, Ok, Err, codes}
 use Rattle.std.specs.Str.{bytes_eq}
+use Rattle.std.specs.List.{AllByRecursion}
+use Rattle.p21_lex.specs.declared.token.TokenKind.{TokenKind}
+use Rattle.p21_lex.specs.declared.token.Token.{Token}
+use Rattle.p21_lex.specs.Reading.{IsToken}
 use Rattle.p21_parse.specs.declared.error.ReadErr.{ReadErr}
 use Rattle.p21_parse.specs.declared.error.ReadErr.TheVariants.{NotBuilt, NoMemory}
 use Rattle.p21_parse.specs.Tree.{Tree, one, reference, list, Trees, none, first, trees, PartTree, InstanceTree, ExchangeTree}
-use Rattle.p21_parse.specs.Symbol.{Symbol, value, name, keyword, dashed, opening, closing, comma, semicolon, equals, is_user}
+use Rattle.p21_parse.specs.Symbol.{Symbol, symbols, value, name, keyword, dashed, opening, closing, comma, semicolon, equals, is_user}
 use Rattle.p21_parse.specs.PlainFile.{is_plain_kind}
 
 infixl 10 ◌>>=◌
@@ -20,6 +24,22 @@ Fails NoMemory said = Unit {0}
 abbrev pub Gives : {X Y : Type 0} → (X → Y) → Result X ReadErr → Option Y → Type 0
 Gives view (Ok x) said = said ≡ Some (view x)
 Gives view (Err e) said = Fails e said
+
+-- The first token is of a kind, and these stand behind it.
+pub record Behind (kind : TokenKind) (tokens rest : List Token) : Type 0 where
+  pub token : Token
+  pub first : tokens ≡ token ∷ rest
+  pub is : token.kind ≡ kind
+
+-- The first token, if there is one, is of another kind.
+abbrev pub IsNotFirst : TokenKind → List Token → Type 0
+IsNotFirst kind [] = Unit {0}
+IsNotFirst kind (t ∷ ts) = t.kind ≡ kind → ⊥
+
+-- Tokens of the bytes, fewer than there were.
+pub record IsBehind (bytes : List ℕ) (tokens rest : List Token) : Type 0 where
+  pub shorter : length rest < length tokens
+  pub inside : AllByRecursion (IsToken bytes) rest
 
 -- things as long as one begins, in so many steps at most
 unfoldable pub many : {X : Type 0} → (List Symbol → Bool) → (List Symbol → Option (X × List Symbol)) → ℕ → List Symbol → Option (List X × List Symbol)

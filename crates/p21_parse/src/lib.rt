@@ -4,6 +4,7 @@
 mod error;
 mod exchange;
 mod param;
+mod parse;
 
 pub use error::ReadErr;
 pub use exchange::{Exchange, Instance, InstanceList, Part, PartList};
