@@ -1,10 +1,10 @@
 -- Numbers: what is found has the form of an integer or a real, and what has the form is found again.
 use Rattle.std.proofs.Common.{◌≡◌, ℕ, zero, suc, ◌+◌, ◌<◌, ◌≤◌, Bool, true, false, cond, eqb, ltb, ◌||◌, ◌&&◌, List, [], ◌∷◌, ◌++◌, length, take, drop, Result, Ok, Err, refl, sym, ap, subst, ◌∙◌, inl, inr, append_assoc, arith}
-use Rattle.std.specs.Prelude.{IsTrue, count_by}
+use Rattle.std.specs.Prelude.{count_by}
 use Rattle.std.specs.List.{list_any}
 use Rattle.std.proofs.lemmas.Bool.{eqb-true, eqb-false, ltb-false, eq-eqb, ne_eqb, le-ltb}
 use Rattle.std.proofs.lemmas.Bool.Decides.{nat_tests}
-use Rattle.std.proofs.lemmas.List.{append-nil, drop-drop, drop_at, take_at, length-append, length-drop}
+use Rattle.std.proofs.lemmas.List.{drop-drop, drop_at, take_at, length-append, length-drop}
 use Rattle.p21_lex.specs.declared.error.LexErr.{LexErr}
 use Rattle.p21_lex.specs.declared.error.LexErr.TheVariants.{BadByte, NumberTooLong}
 use Rattle.p21_lex.specs.declared.token.TokenKind.{TokenKind}
@@ -12,7 +12,7 @@ use Rattle.p21_lex.specs.declared.token.TokenKind.TheVariants as kinds
 use Rattle.p21_lex.specs.declared.piece.Piece.{Piece}
 use Rattle.p21_lex.specs.declared.piece.Piece.TheVariants.{Gap, Spelling}
 use Rattle.p21_lex.specs.Class.{is_digit, is_sign, Each, NotFirst}
-use Rattle.p21_lex.specs.Number.{digits_len, sign_len, int_len, exponent_len, fraction_len}
+use Rattle.p21_lex.specs.Number.{digits_len, int_len, exponent_len, fraction_len}
 use Rattle.p21_lex.specs.Front.{number}
 use Rattle.p21_lex.specs.Reading.{IsDigits, IsInt, IsExponent, IsReal, IsShort, begins_int, begins_exponent, Spells, Stops, IsGap}
 use Rattle.p21_lex.proofs.Runs.{one_more, run_is, run_ends, run_within, no_run, runs, NotFirst-within, take_within}
@@ -428,4 +428,4 @@ real_again at text rest spelled stopped =
     let r = spelled.0 in
     let none : r.exponent ≡ [] → begins_exponent rest ≡ false = λ e. stopped.1 (ap has_e r.parts ∙ has_e-append r.whole (46 ∷ (r.fraction ++ r.exponent)) (int_no_e r.whole r.is_whole) ∙ has_e-append (46 ∷ r.fraction) r.exponent (each_no_e r.fraction r.is_fraction) ∙ ap has_e e) in
     subst (λ (t : List ℕ). number at (t ++ rest) ≡ answered (Spelling kinds.Real (length t))) (sym r.parts)
-      (real_number at r.whole r.fraction r.exponent rest r.is_whole r.is_fraction r.is_exponent stopped.0 none (subst (λ (t : List ℕ). IsShort t) r.parts spelled.1))
+    (real_number at r.whole r.fraction r.exponent rest r.is_whole r.is_fraction r.is_exponent stopped.0 none (subst (λ (t : List ℕ). IsShort t) r.parts spelled.1))

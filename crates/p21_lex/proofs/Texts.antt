@@ -1,15 +1,14 @@
 -- Texts, binaries and comments: what is found up to the closing mark is an inside and the mark, and such an inside is found again.
-use Rattle.std.proofs.Common.{◌≡◌, ℕ, zero, suc, ◌+◌, ◌<◌, ◌≤◌, Bool, true, false, cond, eqb, ◌||◌, ◌&&◌, List, [], ◌∷◌, ◌++◌, length, take, drop, Result, Ok, Err, refl, sym, ap, subst, ◌∙◌, inl, inr, ⊎_elim, arith}
+use Rattle.std.proofs.Common.{◌≡◌, ℕ, zero, suc, ◌+◌, ◌<◌, ◌≤◌, Bool, true, false, cond, eqb, ◌||◌, ◌&&◌, List, [], ◌∷◌, ◌++◌, length, take, drop, Result, Ok, Err, refl, sym, ap, subst, ◌∙◌, inl, inr, arith}
 use Rattle.std.specs.Prelude.{nat_eq, IsTrue}
 use Rattle.std.specs.List.{starts_with}
-use Rattle.std.proofs.lemmas.Bool.{eqb-true, eqb-false, cases_Bool}
+use Rattle.std.proofs.lemmas.Bool.{eqb-true}
 use Rattle.std.proofs.lemmas.Bool.Decides.{nat_tests}
 use Rattle.p21_lex.specs.declared.scan.Unclosed.{Unclosed}
 use Rattle.p21_lex.specs.declared.scan.Unclosed.TheVariants.{Cut, Bad}
 use Rattle.p21_lex.specs.Class.{is_hex, is_legal, Each, NotFirst}
 use Rattle.p21_lex.specs.Scan.{shifted, text_end, binary_end, comment_end}
 use Rattle.p21_lex.specs.Reading.{IsInside, has_end}
-use Rattle.p21_lex.proofs.Runs.{one_more}
 
 abbrev done : ℕ → Result ℕ Unclosed
 done n = Ok n

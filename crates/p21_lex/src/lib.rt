@@ -10,6 +10,7 @@ mod scan;
 mod token;
 
 pub use error::LexErr;
-pub use lexer::tokens;
+pub use lexer::{reading_laws, tokens, tokens_fit};
+pub use number::name_number;
 pub use piece::{Piece, front};
 pub use token::{Token, TokenKind};

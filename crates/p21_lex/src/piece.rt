@@ -43,7 +43,11 @@ fn number(at: u32, bytes: &[u8]) -> Result<Piece, LexErr>
     if digit_count(&bytes[..len]) > MAX_DIGITS {
         return Err(LexErr::NumberTooLong(at));
     }
-    let kind = if fraction == 0 { TokenKind::Int } else { TokenKind::Real };
+    let kind = if fraction == 0 {
+        TokenKind::Int
+    } else {
+        TokenKind::Real
+    };
     Ok(Piece::Spelling(kind, len))
 }
 
@@ -71,7 +75,10 @@ fn user_word(at: u32, bytes: &[u8]) -> Result<Piece, LexErr>
     ensures within { IfOk result (λ p. (0 < piece_len p) × (piece_len p ≤ 1 + length bytes.now)) }
 {
     match bytes {
-        [first, rest @ ..] if is_upper(*first) => Ok(Piece::Spelling(TokenKind::UserWord, 2 + plain_len(rest))),
+        [first, rest @ ..] if is_upper(*first) => Ok(Piece::Spelling(
+            TokenKind::UserWord,
+            2 + plain_len(rest),
+        )),
         _ => Err(LexErr::BadByte(at)),
     }
 }
@@ -82,7 +89,9 @@ fn enumeration(at: u32, bytes: &[u8]) -> Result<Piece, LexErr>
     ensures exact { result ≡ enumeration at bytes.now }
     ensures within { IfOk result (λ p. (0 < piece_len p) × (piece_len p ≤ 1 + length bytes.now)) }
 {
-    let [first, rest @ ..] = bytes else { return Err(LexErr::BadByte(at)) };
+    let [first, rest @ ..] = bytes else {
+        return Err(LexErr::BadByte(at))
+    };
     let len = plain_len(rest);
     if !is_upper(*first) || len >= rest.len() || rest[len] != b'.' {
         return Err(LexErr::BadByte(at));
@@ -123,7 +132,9 @@ fn comment(at: u32, bytes: &[u8]) -> Result<Piece, LexErr>
     ensures exact { result ≡ comment at bytes.now }
     ensures within { IfOk result (λ p. (0 < piece_len p) × (piece_len p ≤ 1 + length bytes.now)) }
 {
-    let [b'*', rest @ ..] = bytes else { return Err(LexErr::BadByte(at)) };
+    let [b'*', rest @ ..] = bytes else {
+        return Err(LexErr::BadByte(at))
+    };
     match comment_end(rest) {
         Ok(len) => Ok(Piece::Gap(2 + len)),
         Err(Unclosed::Cut) => Err(LexErr::OpenComment(at)),
@@ -167,7 +178,9 @@ pub fn front(at: u32, bytes: &[u8]) -> Result<Piece, LexErr>
     ensures within { IfOk result (λ p. piece_len p ≤ length bytes.now) }
     ensures filled { 0 < length bytes.now → IfOk result (λ p. 0 < piece_len p) }
 {
-    let [first, behind @ ..] = bytes else { return Ok(Piece::Gap(0)) };
+    let [first, behind @ ..] = bytes else {
+        return Ok(Piece::Gap(0))
+    };
     match *first {
         b' ' | b'\t' | b'\n' | b'\r' => Ok(Piece::Gap(1)),
         b'A'..=b'Z' | b'_' => Ok(Piece::Spelling(TokenKind::Word, 1 + word_len(behind))),
