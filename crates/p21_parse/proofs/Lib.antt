@@ -6,3 +6,4 @@ pub mod Symbols
 pub mod Loop
 pub mod ViewLemmas
 pub mod ParamSteps
+pub mod PartSteps

@@ -10,7 +10,7 @@ use Rattle.p21_parse.specs.Tree.{Tree, one, reference, list, Trees, none, first}
 use Rattle.p21_lex.specs.declared.token.TokenKind.{TokenKind}
 use Rattle.p21_lex.specs.declared.token.TokenKind.TheVariants.{Word, UserWord, Name, Int, Real, Text, Enumeration, Binary, Open, Close, Comma, Semicolon, Equals, Dollar, Star}
 use Rattle.p21_parse.specs.Symbol.{Symbol, value, name, keyword, dashed, opening, closing, comma, semicolon, equals, symbol, symbol_of, symbols, text_of, has_hyphen}
-use Rattle.p21_parse.specs.Parse.{◌>>=◌, Fails, Behind, IsNotFirst, value_at, one_at, param_at, list_at, some_at, begins_more, after_closing, after_semicolon}
+use Rattle.p21_parse.specs.Parse.{◌>>=◌, Fails, Behind, IsNotFirst, value_at, one_at, param_at, list_at, some_at, begins_more, after_closing, after_semicolon, after_opening, after_equals}
 
 word_value : (b : Bool) (text : List ℕ) → value_at (cond b (dashed text) (keyword text)) ≡ None
 word_value true text = refl
@@ -135,3 +135,13 @@ semicolon_absent (s ∷ ss) h = refl
 
 pub symbols_shorter : (bytes : List ℕ) (tokens rest : List Token) → length rest < length tokens → length (symbols bytes rest) < length (symbols bytes tokens)
 symbols_shorter bytes tokens rest lt = omega (arith, lt, length-map tokens (symbol_of bytes), length-map rest (symbol_of bytes))
+
+pub opening_absent : (ss : List Symbol) → IsNotHead opening ss → after_opening ss ≡ None
+opening_absent [] h = refl
+opening_absent (opening ∷ ss) h = absurd (h refl)
+opening_absent (s ∷ ss) h = refl
+
+pub equals_absent : (ss : List Symbol) → IsNotHead equals ss → after_equals ss ≡ None
+equals_absent [] h = refl
+equals_absent (equals ∷ ss) h = absurd (h refl)
+equals_absent (s ∷ ss) h = refl
