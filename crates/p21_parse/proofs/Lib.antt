@@ -7,3 +7,4 @@ pub mod Loop
 pub mod ViewLemmas
 pub mod ParamSteps
 pub mod PartSteps
+pub mod Words

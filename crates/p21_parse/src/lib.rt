@@ -3,9 +3,13 @@
 
 mod error;
 mod exchange;
+mod distinct;
+mod layout;
 mod param;
 mod parse;
+mod reading;
 
 pub use error::ReadErr;
 pub use exchange::{Exchange, Instance, InstanceList, Part, PartList};
 pub use param::{Param, ParamList};
+pub use reading::read;

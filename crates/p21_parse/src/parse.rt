@@ -7,7 +7,7 @@ ghost use Rattle.std.specs.Option.{option_map};
 ghost use Rattle.p21_lex.specs.Reading.{IsToken};
 ghost use Rattle.p21_parse.specs.View.{tree_of, trees_of, part_of, instance_of, exchange_of};
 ghost use Rattle.p21_parse.specs.Symbol.{symbol_of, symbols, text_of, word, is_user};
-ghost use Rattle.p21_parse.specs.Parse.{Gives, Behind, IsNotFirst, IsBehind, all_of, value_at, one_at, keyword_at, name_at, list_at, param_at, part_at, begins_entry, entry_at, begins_instance, instance_at, after_word, file_at};
+ghost use Rattle.p21_parse.specs.Parse.{Gives, Behind, IsNotFirst, IsBehind, all_of, value_at, one_at, keyword_at, name_at, list_at, param_at, part_at, begins_entry, entry_at, begins_instance, instance_at, is_same, after_word, file_at};
 
 use crate::error::ReadErr;
 use crate::exchange::{Exchange, Instance, InstanceList, Part, PartList};
@@ -181,6 +181,18 @@ fn name<'a>(bytes: &[u8], tokens: &'a [Token]) -> Option<(Number, &'a [Token])>
     Some((name_number(text_of(bytes, *token)), rest))
 }
 
+/// Whether a token is this word, which is no user's keyword.
+fn is_word(bytes: &[u8], token: Token, text: &[u8]) -> bool
+    requires inside { IsToken bytes.now token }
+    requires plain { is_user text.now ≡ false }
+    ensures { result ≡ is_same (symbol_of bytes.now token) (word text.now) }
+{
+    match token.kind {
+        TokenKind::Word => text_of(bytes, token) == text,
+        _ => false,
+    }
+}
+
 /// The tokens behind this word and a semicolon.
 fn after_word<'a>(bytes: &[u8], tokens: &'a [Token], text: &[u8]) -> Result<&'a [Token], ReadErr>
     requires inside { AllByRecursion (IsToken bytes.now) tokens.now }
@@ -191,10 +203,7 @@ fn after_word<'a>(bytes: &[u8], tokens: &'a [Token], text: &[u8]) -> Result<&'a 
     let Some((token, rest)) = tokens.split_first() else {
         return Err(ReadErr::NotBuilt);
     };
-    if token.kind != TokenKind::Word {
-        return Err(ReadErr::NotBuilt);
-    }
-    if text_of(bytes, *token) != text {
+    if !is_word(bytes, *token, text) {
         return Err(ReadErr::NotBuilt);
     }
     let Some(after) = behind(rest, TokenKind::Semicolon) else {
