@@ -144,7 +144,7 @@ part_found ss p e =
     let there = list_found 1 (param_at 1) (param_found 1) inner.value x.value x.was in
     let same : (record { keyword = text.value.0; parameters = x.value.0 }, x.value.1) ≡ p = let gave = x.gave in cc in
     let spelled : ss ≡ keyword text.value.0 ∷ opening ∷ spell_list x.value.0 x.value.1 =
-        front.1 ∙ ap (λ (more : List Symbol). keyword text.value.0 ∷ more) (opened text.value.1 inner.value inner.was ∙ ap (λ (more : List Symbol). opening ∷ more) there.1) in
+    front.1 ∙ ap (λ (more : List Symbol). keyword text.value.0 ∷ more) (opened text.value.1 inner.value inner.was ∙ ap (λ (more : List Symbol). opening ∷ more) there.1) in
     subst (λ (p : PartTree × List Symbol). IsPlainPart p.0 × (ss ≡ spell_part p.0 p.1)) same ((front.0, there.0), spelled)
 
 pub entry_found : Finds IsPlainPart spell_entry entry_at
@@ -165,7 +165,7 @@ instance_found ss p e =
     let here = entry_found body.value x.value x.was in
     let same : (record { number = number.value.0; complex = false; parts = x.value.0 ∷ [] }, x.value.1) ≡ p = let gave = x.gave in cc in
     let spelled : ss ≡ name number.value.0 ∷ equals ∷ spell_entry x.value.0 x.value.1 =
-        name_found ss number.value number.was ∙ ap (λ (more : List Symbol). name number.value.0 ∷ more) (equated number.value.1 body.value body.was ∙ ap (λ (more : List Symbol). equals ∷ more) here.1) in
+    name_found ss number.value number.was ∙ ap (λ (more : List Symbol). name number.value.0 ∷ more) (equated number.value.1 body.value body.was ∙ ap (λ (more : List Symbol). equals ∷ more) here.1) in
     subst (λ (p : InstanceTree × List Symbol). IsPlainInstance p.0 × (ss ≡ spell_instance p.0 p.1)) same ((refl, here.0), spelled)
 
 same_word : (s w : Symbol) → is_same s w ≡ true → s ≡ w

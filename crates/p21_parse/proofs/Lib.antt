@@ -8,3 +8,6 @@ pub mod ViewLemmas
 pub mod ParamSteps
 pub mod PartSteps
 pub mod Words
+pub mod LayoutLemmas
+pub mod NumberLemmas
+pub mod PlainLemmas

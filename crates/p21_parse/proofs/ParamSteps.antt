@@ -1,10 +1,10 @@
 -- The steps of reading a parameter and a list.
-use Rattle.std.proofs.Common.{◌≡◌, ℕ, zero, suc, ◌-◌, ◌<◌, Bool, true, false, List, [], ◌∷◌, Option, Some, None, Result, refl, sym, ap, subst, ◌∙◌, arith}
+use Rattle.std.proofs.Common.{◌≡◌, ℕ, zero, suc, ◌-◌, ◌<◌, List, ◌∷◌, Option, Some, None, refl, sym, ap, ◌∙◌, arith}
 use Rattle.p21_parse.specs.declared.error.ReadErr.{ReadErr}
 use Rattle.p21_parse.specs.declared.error.ReadErr.TheVariants.{NotBuilt, NoMemory}
-use Rattle.p21_parse.specs.Tree.{Tree, list, Trees, none, first}
+use Rattle.p21_parse.specs.Tree.{Tree, list, Trees, none}
 use Rattle.p21_parse.specs.Symbol.{Symbol, opening, closing}
-use Rattle.p21_parse.specs.Parse.{◌>>=◌, Fails, Gives, one_at, param_at, list_at, some_at}
+use Rattle.p21_parse.specs.Parse.{◌>>=◌, Fails, one_at, param_at, list_at, some_at}
 use Rattle.p21_parse.proofs.Symbols.{IsNotHead, param_plain, list_some}
 
 pub list_none : (item : List Symbol → Option (Tree × List Symbol)) (ps : Trees) (ss rest : List Symbol) → ss ≡ closing ∷ rest → ps ≡ none → list_at item ss ≡ Some (ps, rest)

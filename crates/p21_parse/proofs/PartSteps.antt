@@ -1,10 +1,10 @@
 -- The steps of reading a part, an entry and an instance.
-use Rattle.std.proofs.Common.{◌≡◌, ℕ, false, List, [], ◌∷◌, Option, Some, None, refl, sym, ap, subst, ◌∙◌}
+use Rattle.std.proofs.Common.{◌≡◌, ℕ, false, List, [], ◌∷◌, Some, None, refl, sym}
 use Rattle.p21_parse.specs.declared.error.ReadErr.{ReadErr}
 use Rattle.p21_parse.specs.declared.error.ReadErr.TheVariants.{NotBuilt, NoMemory}
-use Rattle.p21_parse.specs.Tree.{Trees, PartTree, InstanceTree}
+use Rattle.p21_parse.specs.Tree.{Trees, PartTree}
 use Rattle.p21_parse.specs.Symbol.{Symbol, opening, semicolon, equals}
-use Rattle.p21_parse.specs.Parse.{◌>>=◌, Fails, param_at, list_at, keyword_at, after_opening, after_semicolon, name_at, after_equals, part_at, entry_at, instance_at}
+use Rattle.p21_parse.specs.Parse.{Fails, param_at, list_at, keyword_at, after_opening, after_semicolon, name_at, after_equals, part_at, entry_at, instance_at}
 
 module _ (ss : List Symbol) where
   pub part_unnamed : None ≡ keyword_at ss → part_at ss ≡ None

@@ -1,16 +1,14 @@
 -- The symbols of tokens.
-use Rattle.std.proofs.Common.{◌≡◌, ℕ, zero, suc, ◌-◌, ◌<◌, Bool, true, false, cond, List, [], ◌∷◌, Option, Some, None, refl, sym, ap, subst, ◌∙◌, arith}
+use Rattle.std.proofs.Common.{◌≡◌, ℕ, suc, ◌<◌, Bool, true, false, cond, List, [], ◌∷◌, Option, None, refl, sym, ap, ◌∙◌, arith}
 use Rattle.std.proofs.Common.{length}
 use Rattle.std.proofs.lemmas.Bool.{false≢true}
 use Rattle.std.proofs.lemmas.List.{length-map}
 use Rattle.p21_lex.specs.declared.token.Token.{Token}
-use Rattle.p21_parse.specs.declared.error.ReadErr.{ReadErr}
-use Rattle.p21_parse.specs.declared.error.ReadErr.TheVariants.{NotBuilt, NoMemory}
-use Rattle.p21_parse.specs.Tree.{Tree, one, reference, list, Trees, none, first}
+use Rattle.p21_parse.specs.Tree.{Tree}
 use Rattle.p21_lex.specs.declared.token.TokenKind.{TokenKind}
 use Rattle.p21_lex.specs.declared.token.TokenKind.TheVariants.{Word, UserWord, Name, Int, Real, Text, Enumeration, Binary, Open, Close, Comma, Semicolon, Equals, Dollar, Star}
-use Rattle.p21_parse.specs.Symbol.{Symbol, value, name, keyword, dashed, opening, closing, comma, semicolon, equals, symbol, symbol_of, symbols, text_of, has_hyphen}
-use Rattle.p21_parse.specs.Parse.{◌>>=◌, Fails, Behind, IsNotFirst, value_at, one_at, param_at, list_at, some_at, begins_more, after_closing, after_semicolon, after_opening, after_equals}
+use Rattle.p21_parse.specs.Symbol.{Symbol, keyword, dashed, opening, closing, comma, semicolon, equals, symbol, symbol_of, symbols, text_of, has_hyphen}
+use Rattle.p21_parse.specs.Parse.{Behind, IsNotFirst, value_at, one_at, param_at, list_at, some_at, begins_more, after_closing, after_semicolon, after_opening, after_equals}
 
 word_value : (b : Bool) (text : List ℕ) → value_at (cond b (dashed text) (keyword text)) ≡ None
 word_value true text = refl

@@ -4,7 +4,7 @@ use mathlib.Core.Former.{Count}
 use Rattle.p21_parse.specs.declared.param.Param.{Param, List', Row_of-Param, end_of-Param, more_of-Param, items-the_row-Param, items_hidden-the_row-Param-0}
 use Rattle.p21_parse.specs.declared.param.Param.TheVariants as params
 use Rattle.p21_parse.specs.declared.param.ParamList.{ParamList}
-use Rattle.p21_parse.specs.Tree.{Trees, list, first, trees}
+use Rattle.p21_parse.specs.Tree.{list, first, trees}
 use Rattle.p21_parse.specs.View.{tree_of, trees_in, trees_of}
 
 row_of : Param → (n : Count) × Row_of-Param n

@@ -8,7 +8,7 @@ use Rattle.p21_lex.specs.Reading.{IsToken}
 use Rattle.p21_parse.specs.declared.error.ReadErr.{ReadErr}
 use Rattle.p21_parse.specs.declared.error.ReadErr.TheVariants.{NotBuilt, NoMemory}
 use Rattle.p21_parse.specs.Tree.{Tree, one, reference, list, Trees, none, first, trees, PartTree, InstanceTree, ExchangeTree}
-use Rattle.p21_parse.specs.Symbol.{Symbol, symbols, value, name, keyword, dashed, opening, closing, comma, semicolon, equals, is_user}
+use Rattle.p21_parse.specs.Symbol.{Symbol, value, name, keyword, dashed, opening, closing, comma, semicolon, equals, is_user}
 use Rattle.p21_parse.specs.PlainFile.{is_plain_kind}
 
 infixl 10 ◌>>=◌

@@ -28,7 +28,7 @@ fn are_distinct(alloc: Global, numbers: &[u32]) -> Result<bool, AllocError>
 
 /// The numbers of instances in their order.
 fn numbers_of(alloc: Global, items: &[Instance]) -> Result<Vec<u32>, AllocError>
-    ensures { IfOk result (λ numbers. numbers.items ≡ map number_of (map instance_of items.now)) }
+    ensures { IfOk result (λ numbers. numbers.items ≡ map (λ item. item.number) items.now) }
 {
     items.iter().map(|item| item.number).collect(alloc)
 }

@@ -1,9 +1,9 @@
 //! Exchanges of ISO 10303-21 clear text: their trees, and the plain file.
 #![tactic(auto)]
 
+mod distinct;
 mod error;
 mod exchange;
-mod distinct;
 mod layout;
 mod param;
 mod parse;
@@ -12,4 +12,4 @@ mod reading;
 pub use error::ReadErr;
 pub use exchange::{Exchange, Instance, InstanceList, Part, PartList};
 pub use param::{Param, ParamList};
-pub use reading::read;
+pub use reading::{one_exchange, read};

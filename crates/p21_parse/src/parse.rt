@@ -52,7 +52,11 @@ fn behind(tokens: &[Token], kind: TokenKind) -> Option<&[Token]>
 }
 
 /// A parameter that is no list.
-fn one<'a>(alloc: Global, bytes: &[u8], tokens: &'a [Token]) -> Result<(Param, &'a [Token]), ReadErr>
+fn one<'a>(
+    alloc: Global,
+    bytes: &[u8],
+    tokens: &'a [Token],
+) -> Result<(Param, &'a [Token]), ReadErr>
     requires { AllByRecursion (IsToken bytes.now) tokens.now }
     ensures exact { Gives (λ x. (tree_of x.0, symbols bytes.now x.1.now)) result (one_at (symbols bytes.now tokens.now)) }
     ensures behind { IfOk result (λ x. IsBehind bytes.now tokens.now x.1.now) }
@@ -65,7 +69,12 @@ fn one<'a>(alloc: Global, bytes: &[u8], tokens: &'a [Token]) -> Result<(Param, &
 
 /// A parameter, in which at most `room` lists lie in one another.
 #[cycle(params)]
-fn param<'a>(alloc: Global, bytes: &[u8], tokens: &'a [Token], room: u32) -> Result<(Param, &'a [Token]), ReadErr>
+fn param<'a>(
+    alloc: Global,
+    bytes: &[u8],
+    tokens: &'a [Token],
+    room: u32,
+) -> Result<(Param, &'a [Token]), ReadErr>
     requires { AllByRecursion (IsToken bytes.now) tokens.now }
     ensures exact { Gives (λ x. (tree_of x.0, symbols bytes.now x.1.now)) result (param_at room (symbols bytes.now tokens.now)) }
     ensures behind { IfOk result (λ x. IsBehind bytes.now tokens.now x.1.now) }
@@ -82,7 +91,12 @@ fn param<'a>(alloc: Global, bytes: &[u8], tokens: &'a [Token], room: u32) -> Res
 
 /// Parameters or nothing behind an opening parenthesis, and the closing one. In each parameter at most `room` lists lie in one another.
 #[cycle(params)]
-fn list<'a>(alloc: Global, bytes: &[u8], tokens: &'a [Token], room: u32) -> Result<(ParamList, &'a [Token]), ReadErr>
+fn list<'a>(
+    alloc: Global,
+    bytes: &[u8],
+    tokens: &'a [Token],
+    room: u32,
+) -> Result<(ParamList, &'a [Token]), ReadErr>
     requires { AllByRecursion (IsToken bytes.now) tokens.now }
     ensures exact { Gives (λ x. (trees_of x.0, symbols bytes.now x.1.now)) result (list_at (param_at room) (symbols bytes.now tokens.now)) }
     ensures behind { IfOk result (λ x. IsBehind bytes.now tokens.now x.1.now) }
@@ -105,7 +119,11 @@ fn list<'a>(alloc: Global, bytes: &[u8], tokens: &'a [Token], room: u32) -> Resu
 }
 
 /// A keyword that is no user's, with its parameters.
-fn part<'a>(alloc: Global, bytes: &[u8], tokens: &'a [Token]) -> Result<(Part, &'a [Token]), ReadErr>
+fn part<'a>(
+    alloc: Global,
+    bytes: &[u8],
+    tokens: &'a [Token],
+) -> Result<(Part, &'a [Token]), ReadErr>
     requires { AllByRecursion (IsToken bytes.now) tokens.now }
     ensures exact { Gives (λ x. (part_of x.0, symbols bytes.now x.1.now)) result (part_at (symbols bytes.now tokens.now)) }
     ensures behind { IfOk result (λ x. IsBehind bytes.now tokens.now x.1.now) }
@@ -117,7 +135,13 @@ fn part<'a>(alloc: Global, bytes: &[u8], tokens: &'a [Token]) -> Result<(Part, &
         return Err(ReadErr::NotBuilt);
     };
     let (parameters, rest) = list(alloc, bytes, inner, 1)?;
-    Ok((Part { keyword: NcText::of(alloc, keyword)?, parameters }, rest))
+    Ok((
+        Part {
+            keyword: NcText::of(alloc, keyword)?,
+            parameters,
+        },
+        rest,
+    ))
 }
 
 /// A keyword that is no user's, and the tokens behind it.
@@ -138,7 +162,11 @@ fn keyword<'a, 'b>(bytes: &'b [u8], tokens: &'a [Token]) -> Option<(&'b [u8], &'
 }
 
 /// A part and the semicolon behind it.
-fn entry<'a>(alloc: Global, bytes: &[u8], tokens: &'a [Token]) -> Result<(Part, &'a [Token]), ReadErr>
+fn entry<'a>(
+    alloc: Global,
+    bytes: &[u8],
+    tokens: &'a [Token],
+) -> Result<(Part, &'a [Token]), ReadErr>
     requires { AllByRecursion (IsToken bytes.now) tokens.now }
     ensures exact { Gives (λ x. (part_of x.0, symbols bytes.now x.1.now)) result (entry_at (symbols bytes.now tokens.now)) }
     ensures behind { IfOk result (λ x. IsBehind bytes.now tokens.now x.1.now) }
@@ -151,7 +179,11 @@ fn entry<'a>(alloc: Global, bytes: &[u8], tokens: &'a [Token]) -> Result<(Part, 
 }
 
 /// A simple instance and its semicolon.
-fn instance<'a>(alloc: Global, bytes: &[u8], tokens: &'a [Token]) -> Result<(Instance, &'a [Token]), ReadErr>
+fn instance<'a>(
+    alloc: Global,
+    bytes: &[u8],
+    tokens: &'a [Token],
+) -> Result<(Instance, &'a [Token]), ReadErr>
     requires { AllByRecursion (IsToken bytes.now) tokens.now }
     ensures exact { Gives (λ x. (instance_of x.0, symbols bytes.now x.1.now)) result (instance_at (symbols bytes.now tokens.now)) }
     ensures behind { IfOk result (λ x. IsBehind bytes.now tokens.now x.1.now) }
@@ -165,7 +197,14 @@ fn instance<'a>(alloc: Global, bytes: &[u8], tokens: &'a [Token]) -> Result<(Ins
     let (part, rest) = entry(alloc, bytes, body)?;
     let mut parts = PartList::new(alloc);
     parts.push(part)?;
-    Ok((Instance { number, complex: false, parts }, rest))
+    Ok((
+        Instance {
+            number,
+            complex: false,
+            parts,
+        },
+        rest,
+    ))
 }
 
 /// The number of a name, and the tokens behind it.
@@ -223,7 +262,11 @@ fn begins_entry(tokens: &[Token]) -> bool
 }
 
 /// The entries of a header.
-fn entries<'a>(alloc: Global, bytes: &[u8], tokens: &'a [Token]) -> Result<(PartList, &'a [Token]), ReadErr>
+fn entries<'a>(
+    alloc: Global,
+    bytes: &[u8],
+    tokens: &'a [Token],
+) -> Result<(PartList, &'a [Token]), ReadErr>
     requires { AllByRecursion (IsToken bytes.now) tokens.now }
     ensures exact { Gives (λ x. (map part_of x.0, symbols bytes.now x.1.now)) result (all_of begins_entry entry_at (symbols bytes.now tokens.now)) }
     ensures inside { IfOk result (λ x. AllByRecursion (IsToken bytes.now) x.1.now) }
@@ -246,7 +289,11 @@ fn begins_instance(tokens: &[Token]) -> bool
 }
 
 /// The instances of a data section.
-fn instances<'a>(alloc: Global, bytes: &[u8], tokens: &'a [Token]) -> Result<(InstanceList, &'a [Token]), ReadErr>
+fn instances<'a>(
+    alloc: Global,
+    bytes: &[u8],
+    tokens: &'a [Token],
+) -> Result<(InstanceList, &'a [Token]), ReadErr>
     requires { AllByRecursion (IsToken bytes.now) tokens.now }
     ensures exact { Gives (λ x. (map instance_of x.0, symbols bytes.now x.1.now)) result (all_of begins_instance instance_at (symbols bytes.now tokens.now)) }
     ensures inside { IfOk result (λ x. AllByRecursion (IsToken bytes.now) x.1.now) }

@@ -16,11 +16,12 @@ use crate::error::ReadErr;
 use crate::exchange::Exchange;
 use crate::layout::is_tight;
 use crate::parse::file;
-use p21_lex::{LexErr, Token, tokens};
+use p21_lex::{LexErr, Token, reading_laws, tokens};
 use std::alloc::Global;
 
 /// The lines that a plain file begins with.
-const PLAIN_HEAD: &[u8] = b"ISO-10303-21;\nHEADER;\nFILE_DESCRIPTION((''),'2;1');\nFILE_NAME('A','',(''),(''),'','','');\nFILE_SCHEMA(('MACHINING_SCHEMA'));\nENDSEC;\nDATA;\n";
+const PLAIN_HEAD: &[u8] =
+    b"ISO-10303-21;\nHEADER;\nFILE_DESCRIPTION((''),'2;1');\nFILE_NAME('A','',(''),(''),'','','');\nFILE_SCHEMA(('MACHINING_SCHEMA'));\nENDSEC;\nDATA;\n";
 
 /// How many instances a file has at most.
 const MOST_INSTANCES: u32 = 200_000;
@@ -45,10 +46,8 @@ fn exchange(alloc: Global, bytes: &[u8], tokens: &[Token]) -> Result<Exchange, R
     ensures tight { IfOk result (λ _. is_tight bytes.now 0 tokens.now ≡ true) }
     ensures spelled { IfOk result (λ x. symbols bytes.now tokens.now ≡ spell_file (exchange_of x)) }
     ensures plain { IfOk result (λ x. IsPlainExchange (exchange_of x)) }
-    ensures only {
-        (x : ExchangeTree) → is_tight bytes.now 0 tokens.now ≡ true
-        → symbols bytes.now tokens.now ≡ spell_file x → IsPlainExchange x → Answers result x
-    }
+    ensures only { (x : ExchangeTree) → is_tight bytes.now 0 tokens.now ≡ true
+        → symbols bytes.now tokens.now ≡ spell_file x → IsPlainExchange x → Answers result x }
 {
     if !is_tight(bytes, tokens) {
         return Err(ReadErr::NotBuilt);
@@ -77,4 +76,11 @@ pub fn read(alloc: Global, bytes: &[u8]) -> Result<Exchange, ReadErr>
     }
     let tokens = tokens_of(alloc, bytes)?;
     exchange(alloc, bytes, tokens.as_slice())
+}
+
+/// A text is a plain file of at most one exchange. It does nothing.
+pub fn one_exchange()
+    ensures { (bytes : List ℕ) (x y : ExchangeTree) → IsPlainFile bytes x → IsPlainFile bytes y → x ≡ y }
+{
+    reading_laws();
 }

@@ -15,10 +15,10 @@ pub returns-in_default-clause-exact : goal.returns-in_default-clause-exact
 returns-in_default-clause-exact c =
     let bytes = c.args.bytes.now in
     entry_open (symbols bytes c.args.tokens.now) (part_of c.in_ok-part.part) (symbols bytes c.in_ok-part.rest.now) c.in_ok-part.ensures.exact
-        (semicolon_absent (symbols bytes c.in_ok-part.rest.now) (mark_absent bytes kinds.Semicolon semicolon c.in_ok-part.rest.now ends c.in_default.ensures.none))
+    (semicolon_absent (symbols bytes c.in_ok-part.rest.now) (mark_absent bytes kinds.Semicolon semicolon c.in_ok-part.rest.now ends c.in_default.ensures.none))
 
 pub returns-clause-exact : goal.returns-clause-exact
 returns-clause-exact c =
     let bytes = c.args.bytes.now in
     entry_read (symbols bytes c.args.tokens.now) (part_of c.in_ok-part.part) (symbols bytes c.in_ok-part.rest.now) (symbols bytes c.in-Some.after.now) c.in_ok-part.ensures.exact
-        (mark_first bytes kinds.Semicolon semicolon c.in_ok-part.rest.now c.in-Some.after.now ends c.in-Some.ensures.found)
+    (mark_first bytes kinds.Semicolon semicolon c.in_ok-part.rest.now c.in-Some.after.now ends c.in-Some.ensures.found)

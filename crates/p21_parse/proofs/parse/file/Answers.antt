@@ -24,5 +24,5 @@ returns-in_err-rest-6 c =
     let bytes = c.args.bytes.now in
     let p = err_from_is_err_and c.from_residual-in_err-rest-6.result c.from_residual-in_err-rest-6.ensures.1 in
     let steps : after_word (dashed (codes "END-ISO-10303-21")) (symbols bytes c.in_ok-rest-5.rest.now) ≡ None → file_at (symbols bytes c.args.tokens.now) ≡ None =
-        λ failed. rw (c.in_ok-rest.ensures.exact, c.in_ok-rest-2.ensures.exact, c.in_ok-head.ensures.exact, c.in_ok-rest-3.ensures.exact, c.in_ok-rest-4.ensures.exact, c.in_ok-items.ensures.exact, c.in_ok-rest-5.ensures.exact, failed) refl in
+    λ failed. rw (c.in_ok-rest.ensures.exact, c.in_ok-rest-2.ensures.exact, c.in_ok-head.ensures.exact, c.in_ok-rest-3.ensures.exact, c.in_ok-rest-4.ensures.exact, c.in_ok-items.ensures.exact, c.in_ok-rest-5.ensures.exact, failed) refl in
     rw (p.1, p.2) (carried c.in_err-rest-6.field-0.0 (after_word (dashed (codes "END-ISO-10303-21")) (symbols bytes c.in_ok-rest-5.rest.now)) (file_at (symbols bytes c.args.tokens.now)) c.in_err-rest-6.ensures.exact steps)

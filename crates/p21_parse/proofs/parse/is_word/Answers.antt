@@ -1,4 +1,4 @@
-use Rattle.std.proofs.Common.{◌≡◌, ℕ, List, ap, sym, ◌∙◌}
+use Rattle.std.proofs.Common.{ℕ, List, ap, sym, ◌∙◌}
 use Rattle.p21_lex.specs.declared.token.TokenKind.{TokenKind}
 use Rattle.std.specs.Str.{bytes_eq}
 use Rattle.p21_parse.specs.Symbol.{symbol, text_of, word}
