@@ -13,3 +13,6 @@ pub use error::ReadErr;
 pub use exchange::{Exchange, Instance, InstanceList, Part, PartList};
 pub use param::{Param, ParamList};
 pub use reading::{one_exchange, read};
+
+#[cfg(test)]
+mod tests;
