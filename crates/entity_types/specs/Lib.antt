@@ -1,0 +1,4 @@
+pub mod Class
+pub mod Table
+pub mod Fits
+pub mod Entity
