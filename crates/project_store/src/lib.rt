@@ -1,0 +1,6 @@
+//! The store: the entities of a project with their references resolved.
+#![tactic(auto)]
+
+mod entities;
+
+pub use entities::Entities;
