@@ -1,10 +1,12 @@
 //! Fields: what stands at a used position.
 
-ghost use Rattle.std.specs.Prelude.{◌≡◌, option_copied};
-ghost use Rattle.entity_types.specs.Entity.{field_at};
+ghost use Rattle.std.specs.Prelude.{◌≡◌, ◌++◌, OnOk, IfOk, option_copied};
+ghost use Rattle.entity_types.specs.Entity.{field_at, references_of};
 
 use crate::table::UsedPosition;
-use nc_base::{ItemList, Number, NumberList};
+use nc_base::{ItemList, NoMemory, Number, NumberList};
+use std::alloc::Global;
+use std::slice::from_ref;
 
 /// What stands at a used position of an entity. Numbers are in thousandths of the unit they are written in.
 #[derive(Debug, Drop)]
@@ -25,6 +27,65 @@ pub enum Field {
 
 /// The fields of an entity.
 pub type FieldList = ItemList<Field>;
+
+impl Field {
+    /// The references that stand there, in order.
+    pub fn references(&self) -> &[Number]
+        ensures { result.now ≡ references_of self.now }
+    {
+        match self {
+            Field::Ref(number) => from_ref(number),
+            Field::Refs(numbers) => numbers.as_slice(),
+            Field::Absent | Field::Present | Field::Value(_) | Field::Values { .. } => &[],
+        }
+    }
+
+    /// An equal field.
+    pub fn copy(&self, alloc: Global) -> Result<Field, NoMemory>
+        ensures { IfOk result (λ copy. copy ≡ self.now) }
+    {
+        Ok(match self {
+            Field::Absent => Field::Absent,
+            Field::Present => Field::Present,
+            Field::Ref(number) => Field::Ref(*number),
+            Field::Value(x) => Field::Value(*x),
+            Field::Refs(numbers) => Field::Refs(copy_numbers(alloc, numbers.as_slice())?),
+            Field::Values { count, x, y, z } => Field::Values {
+                count: *count,
+                x: *x,
+                y: *y,
+                z: *z,
+            },
+        })
+    }
+}
+
+fn copy_numbers(alloc: Global, numbers: &[Number]) -> Result<NumberList, NoMemory>
+    ensures { IfOk result (λ copy. copy ≡ numbers.now) }
+{
+    let mut copy = NumberList::new(alloc);
+    push_all(&mut copy, numbers)?;
+    Ok(copy)
+}
+
+pub(crate) fn push_all(list: &mut NumberList, numbers: &[Number]) -> Result<(), NoMemory>
+    ensures { OnOk result (list.new ≡ list.old ++ numbers.now) }
+{
+    for number in numbers {
+        list.push(*number)?;
+    }
+    Ok(())
+}
+
+pub(crate) fn copy_fields(alloc: Global, fields: &[Field]) -> Result<FieldList, NoMemory>
+    ensures { IfOk result (λ copy. copy ≡ fields.now) }
+{
+    let mut copy = FieldList::new(alloc);
+    for field in fields {
+        copy.push(field.copy(alloc)?)?;
+    }
+    Ok(copy)
+}
 
 pub(crate) fn field_at<'a>(
     used: &[UsedPosition],

@@ -2,6 +2,7 @@
 
 ghost use Rattle.std.specs.Prelude.{◌≡◌};
 ghost use Rattle.entity_types.specs.Table.{used_of};
+ghost use Rattle.entity_types.specs.Target.{accepts};
 
 use crate::class::Class;
 
@@ -42,6 +43,27 @@ pub enum Target {
     Condition,
     Feature,
     Operation,
+}
+
+impl Target {
+    /// Whether a reference here may refer to an entity of the class.
+    pub fn accepts(self, class: Class) -> bool
+        ensures { result ≡ accepts self class }
+    {
+        let code = class.code();
+        match self {
+            Target::Any => true,
+            Target::Workplan => code == 2,
+            Target::Executable => 2 <= code && code <= 12,
+            Target::Channel => code == 13,
+            Target::Variable => code == 14,
+            Target::Mark => code == 9,
+            Target::Value => 14 <= code && code <= 15 || 26 <= code && code <= 28,
+            Target::Condition => 16 <= code && code <= 25,
+            Target::Feature => 29 <= code && code <= 31,
+            Target::Operation => 41 <= code && code <= 48,
+        }
+    }
 }
 
 /// A used position of a class.
