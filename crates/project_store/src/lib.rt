@@ -2,5 +2,6 @@
 #![tactic(auto)]
 
 mod entities;
+mod index;
 
 pub use entities::Entities;
