@@ -1,6 +1,6 @@
 //! The faults of a list of entities.
 
-ghost use Rattle.std.specs.Prelude.{◌≡◌};
+ghost use Rattle.std.specs.Prelude.{◌≡◌, option_map};
 ghost use Rattle.std.specs.List.{list_all};
 ghost use Rattle.project_store.specs.Build.{projects_of, count_fault, missing_among, missing_reference, is_of_target, wrong_among, lesser, least_fault, wrong_position};
 
@@ -21,7 +21,11 @@ pub(crate) fn count_fault(entities: &[Entity]) -> Option<StoreErr>
             seen = true;
         }
     }
-    if seen { None } else { Some(StoreErr::NoProject) }
+    if seen {
+        None
+    } else {
+        Some(StoreErr::NoProject)
+    }
 }
 
 fn missing_among(index: &Index, references: &[Number]) -> Option<Number>
@@ -84,14 +88,19 @@ fn lesser(first: Option<(Number, u32)>, second: Option<(Number, u32)>) -> Option
     }
 }
 
+fn numbered(entity: &Entity, fault: Option<u32>) -> Option<(Number, u32)>
+    ensures { result ≡ option_map (λ x. (entity.now.number, x)) fault }
+{
+    fault.map(|x| (entity.number, x))
+}
+
 pub(crate) fn least_missing(index: &Index) -> Option<(Number, Number)>
     ensures { result ≡ least_fault (missing_reference index.now) index.now }
 {
     let mut least = None;
     for i in 0..index.len() {
         let entity = index.at(i);
-        let fault = missing_reference(index, entity).map(|reference| (entity.number, reference));
-        least = lesser(least, fault);
+        least = lesser(least, numbered(entity, missing_reference(index, entity)));
     }
     least
 }
@@ -103,7 +112,7 @@ pub(crate) fn least_wrong(index: &Index) -> Option<(Number, u32)>
     for i in 0..index.len() {
         let entity = index.at(i);
         let position = wrong_among(index, used(entity.class), entity.fields.as_slice());
-        least = lesser(least, position.map(|position| (entity.number, position)));
+        least = lesser(least, numbered(entity, position));
     }
     least
 }
