@@ -1,6 +1,6 @@
 -- When each answer comes.
 use Rattle.std.proofs.Common.{◌≡◌, ℕ, zero, suc, ◌<◌, ◌≤◌, List, Option, Some, None, Result, Ok, Err, ◌↔◌, refl, sym, ap, ◌∙◌, arith, inl, inr}
-use Rattle.std.specs.Prelude.{ℤ, pos, neg_ℤ, nat_abs}
+use Rattle.std.specs.Prelude.{IfOk, ℤ, pos, neg_ℤ, nat_abs}
 use Rattle.std.proofs.lemmas.Bool.{cases_lt, lt-ltb, le-ltb}
 use Rattle.units_um.specs.declared.fault.UnitErr.{UnitErr}
 use Rattle.units_um.specs.declared.fault.UnitErr.TheVariants.{NotNumber, OutOfRange}
@@ -147,3 +147,7 @@ out_of_range_where text r is = (from (case_of text), to)
     to (n, short, lt) =
         let far : limit < size n = rw (size_signed n.sign (size n)) at lt in
         is ∙ sym (gives_past text n short far)
+
+pub ok_within : (text : List ℕ) (r : Answer) → r ≡ thousandths_of text → IfOk r (λ x. nat_abs x ≤ limit)
+ok_within text (Ok x) is = ((ok_where text (answers x) is x).0 refl).3
+ok_within text (Err e) is = tt

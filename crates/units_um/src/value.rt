@@ -1,6 +1,6 @@
 //! The value of a text in thousandths.
 
-ghost use Rattle.std.specs.Prelude.{◌≡◌, ◌+◌, ◌*◌, ◌^◌, ◌<◌, ◌≤◌, ◌-◌, min, length, Ok, Err, ◌↔◌, nat_abs, ℤ};
+ghost use Rattle.std.specs.Prelude.{◌≡◌, ◌+◌, ◌*◌, ◌^◌, ◌<◌, ◌≤◌, ◌-◌, min, length, Ok, Err, IfOk, ◌↔◌, nat_abs, ℤ};
 ghost use Rattle.std.specs.Str.Parse.{digits_value_after};
 ghost use Rattle.units_um.specs.Number.{AreDigits, IsExponent, IsNumber, Number};
 ghost use Rattle.units_um.specs.Thousandths.{IsShort, digit_count, exponent_digits, raised_by, lowered_by, in_range, size, signed, rounded, limit, thousandths_of};
@@ -111,6 +111,7 @@ fn evaluated(text: &[u8]) -> Result<i64, UnitErr>
 /// `NotNumber`; a rounded value past 10^15 in size is `OutOfRange`.
 pub fn thousandths(text: &[u8]) -> Result<i64, UnitErr>
     ensures value { result ≡ thousandths_of text.now }
+    ensures within { IfOk result (λ x. nat_abs x ≤ limit) }
 
     // Exactly where the text is a number of few enough digits, whose rounded value this is, and within the limit.
     ensures ok { (x : ℤ) → (result ≡ Ok x) ↔ ((n : Number) × IsShort text.now n × (rounded n ≡ x) × (nat_abs x ≤ limit)) }
