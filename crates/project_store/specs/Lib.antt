@@ -1,0 +1,5 @@
+pub mod Entities
+pub mod Build
+pub mod Reach
+pub mod Inserts
+pub mod Put
