@@ -1,0 +1,28 @@
+-- The value of digits, as far as it is counted.
+use Rattle.std.proofs.Common.{◌≡◌, ℕ, ◌+◌, ◌-◌, ◌*◌, ◌<◌, ◌≤◌, min, Bool, true, List, take, drop, length, get_or, All, refl, ap, ◌∙◌, sym, arith}
+use Rattle.std.specs.Prelude.{IsTrue}
+use Rattle.std.specs.List.{prefix_len}
+use Rattle.std.specs.Char.{digit_value}
+use Rattle.std.specs.Str.Parse.{digits_value}
+use Rattle.std.proofs.lemmas.Int.Digits.{digits_value_more}
+use Rattle.std.proofs.lemmas.Bool.Decides.{nat_tests}
+use Rattle.std.proofs.lemmas.List.{get_or-take, length-take, get_or_default}
+use Rattle.std.proofs.lemmas.List.Sums.{prefix_len_passes, prefix_len-le-length}
+use Rattle.p21_lex.specs.Class.{is_digit}
+
+digit_is : (b : ℕ) → IsTrue (is_digit b) → digit_value b ≡ b - 48
+digit_is b h = grind (arith, nat_tests)
+
+-- one digit more
+pub capped_more : (digits : List ℕ) (i value b : ℕ) → i < length digits → get_or digits i 0 ≡ b → IsTrue (is_digit b) → value ≡ min (digits_value 10 (take i digits)) 2147483648
+    → min (value * 10 + (b - 48)) 2147483648 ≡ min (digits_value 10 (take (i + 1) digits)) 2147483648
+capped_more digits i value b lt read digit so_far =
+    let more : digits_value 10 (take (i + 1) digits) ≡ digits_value 10 (take i digits) * 10 + digit_value (get_or digits i 0) = digits_value_more 10 digits i lt in
+    let is : digit_value (get_or digits i 0) ≡ b - 48 = ap digit_value read ∙ digit_is b digit in
+    omega (arith, more, is, so_far)
+
+-- the bytes of a run are of its class
+pub run_passes : (class : ℕ → Bool) (bytes : List ℕ) → All (λ b. IsTrue (class b)) (take (prefix_len class bytes) bytes)
+run_passes class bytes k d lt =
+    let le : k < prefix_len class bytes = omega (arith, length-take (prefix_len class bytes) bytes) in
+    rw (get_or-take (prefix_len class bytes) bytes k d le) (prefix_len_passes class bytes k d le)

@@ -1,0 +1,6 @@
+pub mod Class
+pub mod Number
+pub mod Scan
+pub mod Front
+pub mod Tokens
+pub mod Reading

@@ -1,0 +1,83 @@
+//! Where texts, binaries and comments end.
+
+ghost use Rattle.std.specs.Prelude.{◌≡◌, ◌≤◌, length, MatchResult};
+ghost use Rattle.p21_lex.specs.Scan.{text_end, binary_end, comment_end, IsBelow};
+
+use crate::class::{is_hex, is_legal};
+
+/// Why what was opened has no end: the bytes end, or a byte may not stand there.
+#[derive(Clone, Copy, Debug, PartialEq, Eq)]
+pub enum Unclosed {
+    Cut,
+    /// So many bytes on.
+    Bad(usize),
+}
+
+/// How many bytes behind the opening apostrophe a text has, with its closing one.
+#[tactic(auto, using(crate::proofs::Shifts::shifted_none, crate::proofs::Shifts::shifted_more), unfolding(crate::specs::Scan::text_end))]
+pub fn text_end(bytes: &[u8]) -> Result<usize, Unclosed>
+    ensures exact { result ≡ text_end bytes.now }
+    ensures within { MatchResult result (λ len. len ≤ length bytes.now) (IsBelow (length bytes.now)) }
+{
+    let mut rest = bytes;
+    loop {
+        let seen = bytes.len() - rest.len();
+        match rest {
+            [] => return Err(Unclosed::Cut),
+            [b'\'', b'\'', after @ ..] => rest = after,
+            [b'\'', ..] => return Ok(seen + 1),
+            [byte, after @ ..] => {
+                if !is_legal(*byte) {
+                    return Err(Unclosed::Bad(seen));
+                }
+                rest = after;
+            }
+        }
+    }
+}
+
+/// How many bytes behind the opening quotation mark a binary has, with its closing one.
+#[tactic(auto, using(crate::proofs::Shifts::shifted_none, crate::proofs::Shifts::shifted_more), unfolding(crate::specs::Scan::binary_end))]
+pub fn binary_end(bytes: &[u8]) -> Result<usize, Unclosed>
+    ensures exact { result ≡ binary_end bytes.now }
+    ensures within { MatchResult result (λ len. len ≤ length bytes.now) (IsBelow (length bytes.now)) }
+{
+    let mut rest = bytes;
+    loop {
+        let seen = bytes.len() - rest.len();
+        match rest {
+            [] => return Err(Unclosed::Cut),
+            [b'"', ..] => return Ok(seen + 1),
+            [byte, after @ ..] => {
+                if !is_hex(*byte) {
+                    return Err(Unclosed::Bad(seen));
+                }
+                rest = after;
+            }
+        }
+    }
+}
+
+/// How many bytes behind `/*` a comment has, with its `*/`.
+#[tactic(auto, using(crate::proofs::Shifts::shifted_none, crate::proofs::Shifts::shifted_more), unfolding(crate::specs::Scan::comment_end))]
+pub fn comment_end(bytes: &[u8]) -> Result<usize, Unclosed>
+    ensures exact { result ≡ comment_end bytes.now }
+    ensures within { MatchResult result (λ len. len ≤ length bytes.now) (IsBelow (length bytes.now)) }
+{
+    let mut rest = bytes;
+    loop {
+        let seen = bytes.len() - rest.len();
+        if rest.starts_with(b"*/") {
+            return Ok(seen + 2);
+        }
+        match rest {
+            [] => return Err(Unclosed::Cut),
+            [byte, after @ ..] => {
+                if !is_legal(*byte) {
+                    return Err(Unclosed::Bad(seen));
+                }
+                rest = after;
+            }
+        }
+    }
+}

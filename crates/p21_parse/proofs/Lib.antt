@@ -1,0 +1,4 @@
+pub mod ListLemmas
+pub mod Bind
+pub mod Found
+pub mod Only

@@ -1,0 +1,12 @@
+//! The store: the entities of a project with their references resolved.
+#![tactic(auto)]
+
+mod build;
+mod entities;
+mod error;
+mod index;
+mod store;
+
+pub use entities::Entities;
+pub use error::StoreErr;
+pub use store::Store;

@@ -1,0 +1,4 @@
+pub mod Number
+pub mod Reading
+pub mod Thousandths
+pub mod View
