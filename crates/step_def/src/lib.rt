@@ -1,0 +1,8 @@
+//! The definition of a workingstep: what its feature, its operation and the instances that they refer to come down to, or the
+//! first fault that they have.
+#![tactic(auto)]
+
+mod fault;
+mod found;
+
+pub use fault::DefFault;
