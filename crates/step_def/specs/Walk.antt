@@ -33,13 +33,13 @@ abbrev pub found : {A : Type 0} → ℕ → ℕ → Option A → Result A DefFau
 found n position (Some x) = Ok x
 found n position None = Err (Missing n position)
 
--- the instance is of the class
-abbrev pub is_of : Class → ℕ × Entity → Bool
-is_of class instance = code_of instance.1.class == code_of class
+-- the entity is of the class
+abbrev pub is_of : Class → Entity → Bool
+is_of class entity = code_of entity.class == code_of class
 
 -- the instance where it is of the class
 abbrev pub of_class : Class → ℕ × Entity → Option (ℕ × Entity)
-of_class class instance = if is_of class instance then Some instance else None
+of_class class instance = if is_of class instance.1 then Some instance else None
 
 -- the instance that position of instance n refers to, of any class
 unfoldable pub instance_at : (ℕ → Option Entity) → ℕ → Entity → ℕ → Result (ℕ × Entity) DefFault
@@ -94,16 +94,17 @@ value_in (Some (Value x)) = Some x
 value_in _ = None
 
 -- the number of a measure: position 1 of a TOLERANCED_LENGTH_MEASURE, position 2 of a NUMERIC_PARAMETER
-abbrev pub measure_of : ℕ × Entity → Option ℤ
-measure_of instance =
-    if is_of TolerancedLengthMeasure instance then value_in (field_of instance.1 1)
-    else if is_of NumericParameter instance then value_in (field_of instance.1 2)
+abbrev pub measure_of : Entity → Option ℤ
+measure_of entity =
+    if is_of TolerancedLengthMeasure entity then value_in (field_of entity 1)
+    else if is_of NumericParameter entity then value_in (field_of entity 2)
     else None
 
 -- the length that a field holds: a number, or a reference to a measure
 abbrev pub length_in : (ℕ → Option Entity) → Option Field → Option ℤ
 length_in from (Some (Value x)) = Some x
-length_in from field = option_and_then measure_of (referred from field)
+length_in from (Some (Ref number)) = option_and_then measure_of (from number)
+length_in from _ = None
 
 -- a number with the position that holds it or the reference to it
 abbrev pub figure : ℕ → ℕ → ℤ → Figure
@@ -127,7 +128,7 @@ hole_part from feature = do
 
 -- what the feature of step n adds by its class
 unfoldable pub feature_part_of : (ℕ → Option Entity) → ℕ → ℕ × Entity → Result FeaturePart DefFault
-feature_part_of from n feature = if is_of RoundHole feature then hole_part from feature else Err (Missing n 3)
+feature_part_of from n feature = if is_of RoundHole feature.1 then hole_part from feature else Err (Missing n 3)
 
 -- what each operation has: a retract, which is free, a tool, and a technology with a feed and a spindle speed
 unfoldable pub cut_of : (ℕ → Option Entity) → ℕ × Entity → Result Cut DefFault
@@ -140,8 +141,8 @@ cut_of from operation = do
   Ok (record { retract = retract; tool = tool.0; feed = feed; spindle = spindle })
 
 -- drilling, center drilling, reaming and boring
-abbrev pub is_drilling : ℕ × Entity → Bool
-is_drilling operation = is_between 41 44 (code_of operation.1.class)
+abbrev pub is_drilling : Entity → Bool
+is_drilling operation = is_between 41 44 (code_of operation.class)
 
 -- what drilling adds: a dwell, which is free
 unfoldable pub drilling_part : ℕ × Entity → Result OperationPart DefFault
@@ -151,7 +152,7 @@ drilling_part operation = do
 
 -- what the operation of step n adds by its class
 unfoldable pub operation_part_of : ℕ → ℕ × Entity → Result OperationPart DefFault
-operation_part_of n operation = if is_drilling operation then drilling_part operation else Err (Missing n 4)
+operation_part_of n operation = if is_drilling operation.1 then drilling_part operation else Err (Missing n 4)
 
 -- ---- the whole walk
 

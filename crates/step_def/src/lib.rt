@@ -4,5 +4,6 @@
 
 mod fault;
 mod found;
+mod walk;
 
 pub use fault::DefFault;
