@@ -6,3 +6,4 @@ pub mod Numbers
 pub mod Ranges
 pub mod Sound
 pub mod DefOf
+pub mod Condition

@@ -2,8 +2,11 @@
 //! first fault that they have.
 #![tactic(auto)]
 
+mod check;
+mod definition;
 mod fault;
 mod found;
 mod walk;
 
+pub use definition::resolve;
 pub use fault::DefFault;

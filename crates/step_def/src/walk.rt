@@ -100,13 +100,7 @@ fn direction_at<E: Entities>(
     if is_absent(entity, position) {
         return Ok(None);
     }
-    Ok(Some(coordinates_at(
-        from,
-        n,
-        entity,
-        position,
-        Class::Direction,
-    )?))
+    Ok(Some(coordinates_at(from, n, entity, position, Class::Direction)?))
 }
 
 #[tactic(auto, unfolding(crate::specs::Walk::placement_at))]
