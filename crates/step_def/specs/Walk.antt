@@ -1,0 +1,181 @@
+-- The walk of a workingstep: what is looked up from it, in order, and where something is missing.
+use Rattle.std.specs.Prelude.{ℕ, ℤ, Bool, true, false, not, ◌==◌, if◌then◌else◌, Option, Some, None, option_map, option_and_then, Result, Ok, Err}
+use Rattle.entity_types.specs.declared.class.Class.{Class}
+use Rattle.entity_types.specs.declared.class.Class.TheVariants.{RoundHole, Plane, Axis2Placement3d, CartesianPoint, Direction, MillingTechnology, MillingCuttingTool, TolerancedLengthMeasure, NumericParameter}
+use Rattle.entity_types.specs.declared.field.Field.{Field}
+use Rattle.entity_types.specs.declared.field.Field.TheVariants.{Absent, Ref, Value, Values}
+use Rattle.entity_types.specs.declared.entity.Entity.{Entity}
+use Rattle.entity_types.specs.Class.{code_of}
+use Rattle.entity_types.specs.Entity.{field_of}
+use Rattle.entity_types.specs.Target.{is_between}
+use Rattle.step_def.specs.declared.fault.DefFault.{DefFault}
+use Rattle.step_def.specs.declared.fault.DefFault.TheVariants.{Missing}
+use Rattle.step_def.specs.declared.found.Coordinates.{Coordinates}
+use Rattle.step_def.specs.declared.found.Figure.{Figure}
+use Rattle.step_def.specs.declared.found.Placement.{Placement}
+use Rattle.step_def.specs.declared.found.Cut.{Cut}
+use Rattle.step_def.specs.declared.found.FeaturePart.{FeaturePart}
+use Rattle.step_def.specs.declared.found.FeaturePart.TheVariants.{Hole}
+use Rattle.step_def.specs.declared.found.OperationPart.{OperationPart}
+use Rattle.step_def.specs.declared.found.OperationPart.TheVariants.{Drilling}
+use Rattle.step_def.specs.declared.found.Walk.{Walk}
+use Rattle.step_def.specs.Steps.{◌>>=◌}
+
+-- ---- references
+
+-- the instance that a field refers to, with its number
+abbrev pub referred : (ℕ → Option Entity) → Option Field → Option (ℕ × Entity)
+referred from (Some (Ref number)) = option_map (λ entity. (number, entity)) (from number)
+referred from _ = None
+
+-- this, or else position of n is missing
+abbrev pub found : {A : Type 0} → ℕ → ℕ → Option A → Result A DefFault
+found n position (Some x) = Ok x
+found n position None = Err (Missing n position)
+
+-- the entity is of the class
+abbrev pub is_of : Class → Entity → Bool
+is_of class entity = code_of entity.class == code_of class
+
+-- the instance where it is of the class
+abbrev pub of_class : Class → ℕ × Entity → Option (ℕ × Entity)
+of_class class instance = if is_of class instance.1 then Some instance else None
+
+-- the instance that position of instance n refers to, of any class
+unfoldable pub instance_at : (ℕ → Option Entity) → ℕ → Entity → ℕ → Result (ℕ × Entity) DefFault
+instance_at from n entity position = found n position (referred from (field_of entity position))
+
+-- the instance that position of instance n refers to, of this class
+unfoldable pub class_at : (ℕ → Option Entity) → ℕ → Entity → ℕ → Class → Result (ℕ × Entity) DefFault
+class_at from n entity position class = found n position (option_and_then (of_class class) (referred from (field_of entity position)))
+
+-- the field is `$`
+abbrev pub is_absent : Option Field → Bool
+is_absent (Some Absent) = true
+is_absent _ = false
+
+-- what is looked up at a position that is free: nothing where it is `$`
+abbrev pub free : {A : Type 0} → Option Field → Result A DefFault → Result (Option A) DefFault
+free field looked = if is_absent field then Ok None else (looked >>= λ x. Ok (Some x))
+
+-- ---- points, directions and placements (after ISO 10303-42)
+
+-- the coordinates that a field holds
+abbrev pub coordinates_in : ℕ → Option Field → Option Coordinates
+coordinates_in n (Some (Values count x y z)) = Some (record { number = n; x = x; y = y; z = z })
+coordinates_in n _ = None
+
+-- the coordinates of the point or direction that position of instance n refers to
+unfoldable pub coordinates_at : (ℕ → Option Entity) → ℕ → Entity → ℕ → Class → Result Coordinates DefFault
+coordinates_at from n entity position class = do
+  instance ← class_at from n entity position class
+  found instance.0 2 (coordinates_in instance.0 (field_of instance.1 2))
+
+-- the placement that position of instance n refers to: its point, then its two directions, each of them free
+unfoldable pub placement_at : (ℕ → Option Entity) → ℕ → Entity → ℕ → Result Placement DefFault
+placement_at from n entity position = do
+  placement ← class_at from n entity position Axis2Placement3d
+  point ← coordinates_at from placement.0 placement.1 2 CartesianPoint
+  axis ← free (field_of placement.1 3) (coordinates_at from placement.0 placement.1 3 Direction)
+  reference ← free (field_of placement.1 4) (coordinates_at from placement.0 placement.1 4 Direction)
+  Ok (record { point = point; axis = axis; reference = reference })
+
+-- the placement of the plane that position of instance n refers to
+unfoldable pub plane_at : (ℕ → Option Entity) → ℕ → Entity → ℕ → Result Placement DefFault
+plane_at from n entity position = do
+  plane ← class_at from n entity position Plane
+  placement_at from plane.0 plane.1 2
+
+-- ---- numbers
+
+-- the number that a field holds
+abbrev pub value_in : Option Field → Option ℤ
+value_in (Some (Value x)) = Some x
+value_in _ = None
+
+-- the number of a measure: position 1 of a TOLERANCED_LENGTH_MEASURE, position 2 of a NUMERIC_PARAMETER
+abbrev pub measure_of : Entity → Option ℤ
+measure_of entity =
+    if is_of TolerancedLengthMeasure entity then value_in (field_of entity 1)
+    else if is_of NumericParameter entity then value_in (field_of entity 2)
+    else None
+
+-- the length that a field holds: a number, or a reference to a measure
+abbrev pub length_in : (ℕ → Option Entity) → Option Field → Option ℤ
+length_in from (Some (Value x)) = Some x
+length_in from (Some (Ref number)) = option_and_then measure_of (from number)
+length_in from _ = None
+
+-- a number with the position that holds it or the reference to it
+abbrev pub figure : ℕ → ℕ → ℤ → Figure
+figure n position x = record { number = n; position = position; value = x }
+
+-- the number at position of instance n
+unfoldable pub number_at : ℕ → Entity → ℕ → Result Figure DefFault
+number_at n entity position = found n position (option_map (figure n position) (value_in (field_of entity position)))
+
+-- the length at position of instance n
+unfoldable pub length_at : (ℕ → Option Entity) → ℕ → Entity → ℕ → Result Figure DefFault
+length_at from n entity position = found n position (option_map (figure n position) (length_in from (field_of entity position)))
+
+-- ---- features and operations, by their classes
+
+-- what a hole adds: its diameter
+unfoldable pub hole_part : (ℕ → Option Entity) → ℕ × Entity → Result FeaturePart DefFault
+hole_part from feature = do
+  diameter ← length_at from feature.0 feature.1 6
+  Ok (Hole diameter)
+
+-- what the feature of step n adds by its class
+unfoldable pub feature_part_of : (ℕ → Option Entity) → ℕ → ℕ × Entity → Result FeaturePart DefFault
+feature_part_of from n feature = if is_of RoundHole feature.1 then hole_part from feature else Err (Missing n 3)
+
+-- what each operation has: a retract, which is free, a tool, and a technology with a feed and a spindle speed
+unfoldable pub cut_of : (ℕ → Option Entity) → ℕ × Entity → Result Cut DefFault
+cut_of from operation = do
+  retract ← free (field_of operation.1 4) (length_at from operation.0 operation.1 4)
+  tool ← class_at from operation.0 operation.1 6 MillingCuttingTool
+  technology ← class_at from operation.0 operation.1 7 MillingTechnology
+  feed ← number_at technology.0 technology.1 1
+  spindle ← number_at technology.0 technology.1 4
+  Ok (record { retract = retract; tool = tool.0; feed = feed; spindle = spindle })
+
+-- drilling, center drilling, reaming and boring
+abbrev pub is_drilling : Entity → Bool
+is_drilling operation = is_between 41 44 (code_of operation.class)
+
+-- what drilling adds: a dwell, which is free
+unfoldable pub drilling_part : ℕ × Entity → Result OperationPart DefFault
+drilling_part operation = do
+  dwell ← free (field_of operation.1 12) (number_at operation.0 operation.1 12)
+  Ok (Drilling dwell)
+
+-- what the operation of step n adds by its class
+unfoldable pub operation_part_of : ℕ → ℕ × Entity → Result OperationPart DefFault
+operation_part_of n operation = if is_drilling operation.1 then drilling_part operation else Err (Missing n 4)
+
+-- ---- the whole walk
+
+-- all that is looked up from step n: the security plane, the feature's placement and the plane at its bottom, what the feature
+-- adds, what each operation has, and what the operation adds
+unfoldable pub walk_of : (ℕ → Option Entity) → ℕ → Entity → Result Walk DefFault
+walk_of from n step = do
+  security ← plane_at from n step 2
+  feature ← instance_at from n step 3
+  placement ← placement_at from feature.0 feature.1 4
+  floor ← plane_at from feature.0 feature.1 5
+  feature_part ← feature_part_of from n feature
+  operation ← instance_at from n step 4
+  cut ← cut_of from operation
+  operation_part ← operation_part_of n operation
+  Ok (record {
+    feature = feature.0;
+    operation = operation.0;
+    has_toolpath = not (is_absent (field_of operation.1 1));
+    security = security;
+    placement = placement;
+    floor = floor;
+    feature_part = feature_part;
+    cut = cut;
+    operation_part = operation_part;
+  })

@@ -1,0 +1,12 @@
+//! The definition of a workingstep: what its feature, its operation and the instances that they refer to come down to, or the
+//! first fault that they have.
+#![tactic(auto)]
+
+mod check;
+mod definition;
+mod fault;
+mod found;
+mod walk;
+
+pub use definition::resolve;
+pub use fault::DefFault;
