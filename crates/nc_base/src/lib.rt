@@ -1,6 +1,7 @@
 //! What every layer of stepnc speaks in: numbers of instances, texts, lists, verdicts, and counters of steps.
 #![tactic(auto)]
 
+mod distinct;
 mod items;
 mod memory;
 mod numbers;
@@ -8,6 +9,7 @@ mod steps;
 mod text;
 mod verdict;
 
+pub use distinct::are_distinct;
 pub use items::ItemList;
 pub use memory::NoMemory;
 pub use numbers::{Number, NumberList};

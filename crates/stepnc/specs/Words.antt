@@ -1,0 +1,88 @@
+-- The words of a command, after this profile.
+use Rattle.std.specs.Prelude.{◌≡◌, ℕ, ◌+◌, ◌-◌, ◌*◌, ◌<◌, ◌≤◌, Bool, true, false, not, ◌&&◌, ◌||◌, ◌==◌, nat_lt, nat_le, List, [], ◌∷◌, length, take, codes, fold, Option, Some, None}
+use Rattle.std.specs.List.{list_any, list_all}
+use Rattle.std.specs.Str.{bytes_eq}
+
+-- what a word of a command may be
+abbrev pub Form : Type 0
+Form = List ℕ → Bool
+
+abbrev pub is_digit : ℕ → Bool
+is_digit b = nat_le 48 b && nat_le b 57
+
+-- the number that digits spell
+abbrev pub value_of : List ℕ → ℕ
+value_of digits = fold (λ n b. n * 10 + (b - 48)) 0 digits
+
+-- no digit 0 stands before others
+abbrev pub has_leading_zero : List ℕ → Bool
+has_leading_zero [] = false
+has_leading_zero (b ∷ []) = false
+has_leading_zero (b ∷ c ∷ bs) = b == 48
+
+-- a number: 1 to 7 digits without a leading zero, 0 alone allowed
+abbrev pub is_number : Form
+is_number w = nat_lt 0 (length w) && nat_le (length w) 7 && list_all is_digit w && not (has_leading_zero w)
+
+-- a limit of entries: 1 to 2,000,000
+abbrev pub is_limit : Form
+is_limit w = is_number w && nat_le 1 (value_of w) && nat_le (value_of w) 2000000
+
+-- a file name: at least one byte
+abbrev pub is_name : Form
+is_name w = nat_lt 0 (length w)
+
+-- the lines of the table
+abbrev pub replay_line : List Form
+replay_line = bytes_eq (codes "replay") ∷ is_name ∷ bytes_eq (codes "-") ∷ bytes_eq (codes "-") ∷ is_limit ∷ []
+
+abbrev pub help_line : List Form
+help_line = bytes_eq (codes "--help") ∷ []
+
+abbrev pub version_line : List Form
+version_line = bytes_eq (codes "--version") ∷ []
+
+abbrev pub table : List (List Form)
+table = replay_line ∷ help_line ∷ version_line ∷ []
+
+-- the words begin the line
+abbrev pub begins : List (List ℕ) → List Form → Bool
+begins [] forms = true
+begins (w ∷ ws) [] = false
+begins (w ∷ ws) (form ∷ forms) = form w && begins ws forms
+
+-- the words are the line
+abbrev pub is_line : List (List ℕ) → List Form → Bool
+is_line ws forms = begins ws forms && (length ws == length forms)
+
+-- the words begin some line of the table, or are one
+abbrev pub begins_some : List (List ℕ) → Bool
+begins_some ws = list_any (begins ws) table
+
+abbrev pub is_some_line : List (List ℕ) → Bool
+is_some_line ws = list_any (is_line ws) table
+
+-- The words aren't a line of the table, and i is the least place such that words 0 to i don't begin one; where the words end too early, i is
+-- their number.
+pub record AreBadAt (ws : List (List ℕ)) (i : ℕ) : Type 0 where
+  pub no_line : is_some_line ws ≡ false
+  pub within : i ≤ length ws
+  pub begun : begins_some (take i ws) ≡ true
+  pub ended : i < length ws → begins_some (take (i + 1) ws) ≡ false
+
+-- the words are those of a replay of this project file with this limit
+abbrev pub IsReplay : List (List ℕ) → List ℕ → ℕ → Type 0
+IsReplay (w0 ∷ project ∷ w2 ∷ w3 ∷ w4 ∷ []) name limit =
+    (is_line (w0 ∷ project ∷ w2 ∷ w3 ∷ w4 ∷ []) replay_line ≡ true) × (project ≡ name) × (value_of w4 ≡ limit)
+IsReplay _ name limit = ⊥
+
+-- the word is of the form that stands there, if one does
+abbrev pub passes : Option Form → List ℕ → Bool
+passes None w = false
+passes (Some form) w = form w
+
+-- so many words begin the line, and no more of them do
+pub record AreFit (ws : List (List ℕ)) (forms : List Form) (n : ℕ) : Type 0 where
+  pub within : n ≤ length ws
+  pub begun : begins (take n ws) forms ≡ true
+  pub ended : n < length ws → begins (take (n + 1) ws) forms ≡ false
