@@ -14,3 +14,6 @@ pub use error::StoreErr;
 pub use overlay::Overlay;
 pub use reach::closure;
 pub use store::Store;
+
+#[cfg(test)]
+mod tests;
