@@ -1,5 +1,5 @@
 -- The classes of entities, by number and by keyword.
-use Rattle.std.specs.Prelude.{ℕ, Bool, List, [], ◌∷◌, if◌then◌else◌, codes}
+use Rattle.std.specs.Prelude.{ℕ, List, [], ◌∷◌, if◌then◌else◌, codes}
 use Rattle.std.specs.Str.{bytes_eq}
 use Rattle.entity_types.specs.declared.class.Class.{Class}
 use Rattle.entity_types.specs.declared.class.Class.TheVariants.{Project, Workplan, Parallel, NonSequential, Selective, IfStatement, WhileStatement, Assignment, SetMark, WaitForMark, MachiningWorkingstep, Note, Channel, NcVariable, NcConstant, ComparisonEqual, ComparisonNotEqual, ComparisonGreater, ComparisonGreaterEqual, ComparisonLess, ComparisonLessEqual, AndExpression, OrExpression, XorExpression, NotExpression, NcSum, NcDifference, NcProduct, RoundHole, PlanarFace, ClosedPocket, LinearPath, LinearProfile, RectangularClosedProfile, GeneralClosedProfile, Polyline, Plane, Axis2Placement3d, CartesianPoint, Direction, Drilling, CenterDrilling, Reaming, Boring, PlaneRoughMilling, PlaneFinishMilling, BottomAndSideRoughMilling, BottomAndSideFinishMilling, Bidirectional, Unidirectional, MillingTechnology, MillingCuttingTool, Endmill, TaperedEndmill, BallEndmill, Facemill, TwistDrill, MillingToolDimension, TolerancedLengthMeasure, NumericParameter, Opaque}

@@ -3,7 +3,7 @@ use Rattle.std.specs.Prelude.{ℕ, Bool, false, ◌||◌, ◌==◌, if◌then◌
 use Rattle.entity_types.specs.declared.class.Class.{Class}
 use Rattle.entity_types.specs.declared.table.UsedPosition.{UsedPosition}
 use Rattle.entity_types.specs.declared.field.Field.{Field}
-use Rattle.entity_types.specs.declared.field.Field.TheVariants.{Absent, Present, Ref, Value, Refs, Values}
+use Rattle.entity_types.specs.declared.field.Field.TheVariants.{Ref, Refs}
 use Rattle.entity_types.specs.declared.entity.Entity.{Entity}
 use Rattle.entity_types.specs.Table.{used_of}
 

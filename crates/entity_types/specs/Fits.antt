@@ -1,5 +1,5 @@
 -- Which fields may stand at which used positions.
-use Rattle.std.specs.Prelude.{ℕ, ℤ, pos, Bool, true, false, ◌&&◌, ◌||◌, ◌==◌, nat_le, List, [], ◌∷◌, unsigned_abs}
+use Rattle.std.specs.Prelude.{ℕ, ℤ, Bool, true, false, ◌&&◌, ◌||◌, ◌==◌, nat_le, List, [], ◌∷◌, unsigned_abs}
 use Rattle.entity_types.specs.declared.class.Class.{Class}
 use Rattle.entity_types.specs.declared.table.Kind.{Kind}
 use Rattle.entity_types.specs.declared.table.Kind.TheVariants.{Reference, References, SomeReferences, Numeral, Length, Operand, Coordinates, Flag}
@@ -52,14 +52,19 @@ abbrev pub are_coordinates : ℕ → ℤ → ℤ → ℤ → Bool
 are_coordinates count x y z =
     nat_le 1 count && nat_le count 3 && in_range x && in_range y && in_range z && is_zero_past count 2 y && is_zero_past count 3 z
 
--- the field may stand at the used position
+-- the field, which is not Absent, may stand where this kind is wanted
+abbrev pub kind_fits : Kind → Field → Bool
+kind_fits kind Absent = false
+kind_fits kind Present = is_flag kind
+kind_fits kind (Ref number) = takes_reference kind
+kind_fits kind (Value x) = takes_number kind && in_range x
+kind_fits kind (Refs numbers) = takes_references kind numbers
+kind_fits kind (Values count x y z) = takes_coordinates kind && are_coordinates count x y z
+
+-- the field may stand at the used position; Absent only at a flag or where `$` may stand
 abbrev pub field_fits : UsedPosition → Field → Bool
 field_fits used Absent = used.optional || is_flag used.kind
-field_fits used Present = is_flag used.kind
-field_fits used (Ref number) = takes_reference used.kind
-field_fits used (Value x) = takes_number used.kind && in_range x
-field_fits used (Refs numbers) = takes_references used.kind numbers
-field_fits used (Values count x y z) = takes_coordinates used.kind && are_coordinates count x y z
+field_fits used field = kind_fits used.kind field
 
 -- there is one field for each of the positions, in their order, and each may stand there
 abbrev pub all_fit : List UsedPosition → List Field → Bool

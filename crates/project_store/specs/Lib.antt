@@ -1,2 +1,6 @@
 pub mod Entities
 pub mod Build
+pub mod Reach
+pub mod Inserts
+pub mod Put
+pub mod Resolved

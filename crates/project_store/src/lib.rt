@@ -5,8 +5,15 @@ mod build;
 mod entities;
 mod error;
 mod index;
+mod overlay;
+mod reach;
 mod store;
 
 pub use entities::Entities;
 pub use error::StoreErr;
+pub use overlay::Overlay;
+pub use reach::closure;
 pub use store::Store;
+
+#[cfg(test)]
+mod tests;

@@ -1,4 +1,3 @@
-use Rattle.std.proofs.Common.{◌≡◌}
 use Rattle.entity_types.proofs.FitsLemmas.{is_some-field_at, is_some-copied}
 use Rattle.entity_types.specs.Table.{used_of}
 use Rattle.entity_types.proofs.entity.Entity.field.Goals as goal
