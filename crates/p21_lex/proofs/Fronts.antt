@@ -1,11 +1,9 @@
 -- The front of a text: what is found there has the form of its kind, and what has the form is found there.
-use Rattle.std.proofs.Common.{◌≡◌, ℕ, zero, suc, ◌+◌, ◌<◌, ◌≤◌, Bool, true, false, cond, eqb, ltb, leb, ◌||◌, ◌&&◌, List, [], ◌∷◌, ◌++◌, length, take, drop, get_or, Option, Some, None, Result, Ok, Err, refl, sym, ap, subst, ◌∙◌, ◌⊎◌, inl, inr, append_assoc, arith}
-use Rattle.std.specs.Prelude.{IsTrue}
+use Rattle.std.proofs.Common.{◌≡◌, ℕ, suc, ◌+◌, ◌<◌, ◌≤◌, Bool, true, false, cond, eqb, leb, ◌||◌, ◌&&◌, List, [], ◌∷◌, ◌++◌, length, take, drop, get_or, Option, Some, None, Result, Ok, Err, refl, sym, ap, subst, ◌∙◌, ◌⊎◌, inl, inr, arith}
 use Rattle.std.specs.List.{prefix_len}
 use Rattle.std.specs.Str.Parse.{digits_value}
-use Rattle.std.proofs.lemmas.Bool.{eqb-true, eqb-false, eq-eqb, ne_eqb, leb-true, le-leb, and_parts, cases_lt}
-use Rattle.std.proofs.lemmas.Bool.Decides.{nat_tests}
-use Rattle.std.proofs.lemmas.List.{take_at, length-append, take_more, get_or_past, get_or_at, append-nil}
+use Rattle.std.proofs.lemmas.Bool.{eqb-true, eqb-false, leb-true, le-leb, and_parts, cases_lt}
+use Rattle.std.proofs.lemmas.List.{take_more, get_or_past}
 use Rattle.p21_lex.specs.declared.error.LexErr.{LexErr}
 use Rattle.p21_lex.specs.declared.error.LexErr.TheVariants.{BadByte, BadName, OpenString, OpenComment}
 use Rattle.p21_lex.specs.declared.token.TokenKind.{TokenKind}
@@ -14,17 +12,17 @@ use Rattle.p21_lex.specs.declared.piece.Piece.{Piece}
 use Rattle.p21_lex.specs.declared.piece.Piece.TheVariants.{Gap, Spelling}
 use Rattle.p21_lex.specs.declared.scan.Unclosed.{Unclosed}
 use Rattle.p21_lex.specs.declared.scan.Unclosed.TheVariants.{Cut, Bad}
-use Rattle.p21_lex.specs.Class.{is_digit, is_sign, is_upper, is_plain, is_word, is_hex, is_blank, Each, NotFirst}
+use Rattle.p21_lex.specs.Class.{is_digit, is_sign, is_upper, is_plain, is_word, is_blank}
 use Rattle.p21_lex.specs.Number.{digits_len}
 use Rattle.p21_lex.specs.Scan.{text_end, binary_end, comment_end}
 use Rattle.p21_lex.specs.Front.{number, name, user_word, enumeration, closed, commented, comment, mark, marked, front}
-use Rattle.p21_lex.specs.Reading.{IsKeyword, IsDigits, IsInt, IsInside, IsBetween, IsGap, Spells, Stops}
-use Rattle.p21_lex.proofs.Runs.{one_more, run_is, run_ends, run_within, runs, take_within}
-use Rattle.p21_lex.proofs.Texts.{Closes, text_closes, text_again, binary_closes, binary_again, comment_closes, comment_again}
-use Rattle.p21_lex.proofs.Numbers.{digits_each, digits_found, IsDigits-from, answered, refused, answer_is, refused_not, TokenFound, GapFound, Found, number_found, int_number, real_again}
+use Rattle.p21_lex.specs.Reading.{Spells, Stops}
+use Rattle.p21_lex.proofs.Runs.{one_more, run_is, run_ends, run_within}
+use Rattle.p21_lex.proofs.Texts.{text_closes, binary_closes, comment_closes}
+use Rattle.p21_lex.proofs.Numbers.{digits_found, answered, refused, answer_is, refused_not, TokenFound, GapFound, Found, number_found}
 
 -- which of two answers a test chose
-chosen : (t : Bool) (x y r : Result Piece LexErr) (P : Type 0) → cond t x y ≡ r → (t ≡ true → x ≡ r → P) → (t ≡ false → y ≡ r → P) → P
+pub chosen : (t : Bool) (x y r : Result Piece LexErr) (P : Type 0) → cond t x y ≡ r → (t ≡ true → x ≡ r → P) → (t ≡ false → y ≡ r → P) → P
 chosen true x y r P e yes_is no_is = yes_is refl e
 chosen false x y r P e yes_is no_is = no_is refl e
 
@@ -46,18 +44,15 @@ user_word_found at [] piece e = absurd (refused_not (BadByte at) piece e)
 user_word_found at (b ∷ bs) piece e =
     let n = prefix_len is_plain bs in
     chosen (is_upper b) (answered (Spelling kinds.UserWord (2 + n))) (refused (BadByte at)) (answered piece) (Found (33 ∷ b ∷ bs) piece) e
-      (λ upper is.
-        let len : 2 + n ≡ 1 + suc n = omega arith in
-        found_at kinds.UserWord 33 (b ∷ bs) (suc n) piece (b ∷ take n bs, refl, (upper, run_is is_plain bs)) (run_ends is_plain bs) (omega (arith, run_within is_plain bs)) (ap (λ (k : ℕ). answered (Spelling kinds.UserWord k)) (sym len) ∙ is))
-      (λ lower is. absurd (refused_not (BadByte at) piece is))
+    (λ upper is.
+    let len : 2 + n ≡ 1 + suc n = omega arith in
+    found_at kinds.UserWord 33 (b ∷ bs) (suc n) piece (b ∷ take n bs, refl, (upper, run_is is_plain bs)) (run_ends is_plain bs) (omega (arith, run_within is_plain bs)) (ap (λ (k : ℕ). answered (Spelling kinds.UserWord k)) (sym len) ∙ is))
+    (λ lower is. absurd (refused_not (BadByte at) piece is))
 
 -- ---- names
 
 in_range : (v : ℕ) → (leb 1 v && leb v 2147483647) ≡ true → (1 ≤ v) × (v ≤ 2147483647)
 in_range v h = let p = and_parts (leb 1 v) (leb v 2147483647) h in (leb-true 1 v p.0, leb-true v 2147483647 p.1)
-
-in_range_again : (v : ℕ) → 1 ≤ v → v ≤ 2147483647 → (leb 1 v && leb v 2147483647) ≡ true
-in_range_again v low high = let l : leb 1 v ≡ true = le-leb 1 v low in let h : leb v 2147483647 ≡ true = le-leb v 2147483647 high in rw (l, h) refl
 
 name_found : (at : ℕ) (bs : List ℕ) (piece : Piece) → name at bs ≡ answered piece → Found (35 ∷ bs) piece
 unfolding name
@@ -65,20 +60,21 @@ name_found at bs piece e =
     let n = digits_len bs in
     let v = digits_value 10 (take n bs) in
     chosen (eqb n 0) (refused (BadByte at)) (cond (leb 1 v && leb v 2147483647) (answered (Spelling kinds.Name (1 + n))) (refused (BadName at))) (answered piece) (Found (35 ∷ bs) piece) e
-      (λ none is. absurd (refused_not (BadByte at) piece is))
-      (λ some is. chosen (leb 1 v && leb v 2147483647) (answered (Spelling kinds.Name (1 + n))) (refused (BadName at)) (answered piece) (Found (35 ∷ bs) piece) is
-        (λ good has.
-          let range = in_range v good in
-          found_at kinds.Name 35 bs n piece (take n bs, refl, digits_found bs (eqb-false n 0 some), range.0, range.1) (run_ends is_digit bs) (run_within is_digit bs) has)
-        (λ bad has. absurd (refused_not (BadName at) piece has)))
+    (λ none is. absurd (refused_not (BadByte at) piece is))
+    (λ some is. chosen (leb 1 v && leb v 2147483647) (answered (Spelling kinds.Name (1 + n))) (refused (BadName at)) (answered piece) (Found (35 ∷ bs) piece) is
+    (λ good has.
+    let range = in_range v good in
+    found_at kinds.Name 35 bs n piece (take n bs, refl, digits_found bs (eqb-false n 0 some), range.0, range.1) (run_ends is_digit bs) (run_within is_digit bs) has)
+    (λ bad has. absurd (refused_not (BadName at) piece has)))
 
 -- ---- enumerations
 
-point_within : (bs : List ℕ) (n : ℕ) → eqb (get_or bs n 0) 46 ≡ true → n < length bs
+pub point_within : (bs : List ℕ) (n : ℕ) → eqb (get_or bs n 0) 46 ≡ true → n < length bs
 point_within bs n h = by_place (cases_lt n (length bs))
   where
     past : length bs ≤ n → ⊥
     past le = let zero_there : get_or bs n 0 ≡ 0 = get_or_past bs n 0 le in let point : get_or bs n 0 ≡ 46 = eqb-true (get_or bs n 0) 46 h in omega arith
+
     by_place : (n < length bs) ⊎ (length bs ≤ n) → n < length bs
     by_place (inl lt) = lt
     by_place (inr le) = absurd (past le)
@@ -90,15 +86,15 @@ enumeration_found at (b ∷ bs) piece e =
     let n = prefix_len is_plain bs in
     let test = is_upper b && eqb (get_or bs n 0) 46 in
     chosen test (answered (Spelling kinds.Enumeration (3 + n))) (refused (BadByte at)) (answered piece) (Found (46 ∷ b ∷ bs) piece) e
-      (λ passed is.
-        let p = and_parts (is_upper b) (eqb (get_or bs n 0) 46) passed in
-        let lt : n < length bs = point_within bs n p.1 in
-        let one : n + 1 ≡ suc n = omega arith in
-        let point : get_or bs n 0 ≡ 46 = eqb-true (get_or bs n 0) 46 p.1 in
-        let parts : take (suc n) bs ≡ take n bs ++ 46 ∷ [] = rw (← one, ← point) (take_more bs n 0 lt) in
-        let len : 3 + n ≡ 1 + suc (suc n) = omega arith in
-        found_at kinds.Enumeration 46 (b ∷ bs) (suc (suc n)) piece (b ∷ take n bs, ap (λ (ys : List ℕ). 46 ∷ b ∷ ys) parts, (p.0, run_is is_plain bs)) tt (omega arith) (ap (λ (k : ℕ). answered (Spelling kinds.Enumeration k)) (sym len) ∙ is))
-      (λ failed is. absurd (refused_not (BadByte at) piece is))
+    (λ passed is.
+    let p = and_parts (is_upper b) (eqb (get_or bs n 0) 46) passed in
+    let lt : n < length bs = point_within bs n p.1 in
+    let one : n + 1 ≡ suc n = omega arith in
+    let point : get_or bs n 0 ≡ 46 = eqb-true (get_or bs n 0) 46 p.1 in
+    let parts : take (suc n) bs ≡ take n bs ++ 46 ∷ [] = rw (← one, ← point) (take_more bs n 0 lt) in
+    let len : 3 + n ≡ 1 + suc (suc n) = omega arith in
+    found_at kinds.Enumeration 46 (b ∷ bs) (suc (suc n)) piece (b ∷ take n bs, ap (λ (ys : List ℕ). 46 ∷ b ∷ ys) parts, (p.0, run_is is_plain bs)) tt (omega arith) (ap (λ (k : ℕ). answered (Spelling kinds.Enumeration k)) (sym len) ∙ is))
+    (λ failed is. absurd (refused_not (BadByte at) piece is))
 
 -- ---- texts and binaries
 
@@ -129,7 +125,7 @@ commented_found at bs piece (Ok n) has e =
     let c = comment_closes bs n has in
     let len : 2 + n ≡ suc (suc n) = omega arith in
     let here : GapFound (47 ∷ 42 ∷ bs) (2 + n) = rw len (record {
-      gap = inr (c.inside, ap (λ (ys : List ℕ). 47 ∷ 42 ∷ ys) c.parts, c.passes.0, c.passes.1);
+      gap = inr (c.inside, ap (λ (ys : List ℕ). 47 ∷ 42 ∷ ys) c.parts, c.passes);
       within = omega (arith, c.within);
       filled = omega arith;
     }) in
@@ -142,8 +138,8 @@ unfolding comment
 comment_found at [] piece e = absurd (refused_not (BadByte at) piece e)
 comment_found at (b ∷ bs) piece e =
     chosen (eqb b 42) (commented at (comment_end bs)) (refused (BadByte at)) (answered piece) (Found (47 ∷ b ∷ bs) piece) e
-      (λ star is. subst (λ (x : ℕ). Found (47 ∷ x ∷ bs) piece) (sym (eqb-true b 42 star)) (commented_found at bs piece (comment_end bs) refl is))
-      (λ other is. absurd (refused_not (BadByte at) piece is))
+    (λ star is. subst (λ (x : ℕ). Found (47 ∷ x ∷ bs) piece) (sym (eqb-true b 42 star)) (commented_found at bs piece (comment_end bs) refl is))
+    (λ other is. absurd (refused_not (BadByte at) piece is))
 
 -- ---- marks
 

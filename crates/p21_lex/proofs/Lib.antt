@@ -5,3 +5,12 @@ pub mod Runs
 pub mod Texts
 pub mod Numbers
 pub mod Fronts
+pub mod Spelled
+pub mod Whole
+pub mod Places
+pub mod Memory
+pub mod Names
+pub mod Longest
+pub mod Pieces
+pub mod Faults
+pub mod Refused

@@ -1,5 +1,5 @@
 -- Reading piece after piece, as a loop does.
-use Rattle.std.proofs.Common.{◌≡◌, ℕ, zero, suc, ◌+◌, ◌-◌, ◌<◌, ◌≤◌, List, [], ◌∷◌, ◌++◌, length, take, drop, Bool, true, false, eqb, Result, Ok, Err, refl, sym, ap, subst, ◌∙◌, append_assoc, arith}
+use Rattle.std.proofs.Common.{◌≡◌, ℕ, zero, suc, ◌+◌, ◌<◌, ◌≤◌, List, [], ◌∷◌, ◌++◌, length, drop, Bool, true, false, eqb, Result, Ok, Err, refl, sym, ap, ◌∙◌, append_assoc, arith}
 use Rattle.std.proofs.lemmas.List.{append-nil, length-drop}
 use Rattle.std.proofs.lemmas.Bool.{eqb-true, eqb-false}
 use Rattle.p21_lex.specs.declared.error.LexErr.{LexErr}
@@ -28,7 +28,7 @@ unfolding tokens_of
 begun bytes = record { steps = length bytes; enough = omega arith; so_far = with_front-nil (tokens_in (length bytes) 0 bytes) }
 
 -- where a text isn't empty, its tokens are those of its front and of what is behind it
-unrolled : (steps at : ℕ) (rest : List ℕ) → 0 < length rest → length rest ≤ steps
+pub unrolled : (steps at : ℕ) (rest : List ℕ) → 0 < length rest → length rest ≤ steps
     → (less : ℕ) × (steps ≡ suc less) × (tokens_in steps at rest ≡ tokens_behind at (front at rest) (λ len. tokens_in less (at + len) (drop len rest)))
 unfolding tokens_in
 unrolled steps at [] filled enough = absurd (omega arith)
@@ -68,7 +68,7 @@ pub fails : (total : Result (List Token) LexErr) (before : List Token) (at : ℕ
     → 0 < length rest → front at rest ≡ Err e → Fails e total
 fails total before at rest e reached filled is = Fails-from e total (is_refused total before at rest e reached filled is)
 
-nothing_left : (steps at : ℕ) (rest : List ℕ) → length rest ≡ 0 → tokens_in steps at rest ≡ Ok []
+pub nothing_left : (steps at : ℕ) (rest : List ℕ) → length rest ≡ 0 → tokens_in steps at rest ≡ Ok []
 unfolding tokens_in
 nothing_left zero at rest none = refl
 nothing_left (suc steps) at [] none = refl

@@ -1,6 +1,6 @@
 -- The classes of bytes of the clear text encoding (ISO 10303-21, the basic alphabet), and runs of one class.
-use Rattle.std.specs.Prelude.{◌≡◌, ℕ, Bool, true, false, ◌&&◌, ◌||◌, ◌==◌, nat_le, List, [], ◌∷◌, IsTrue}
-use Rattle.std.specs.List.{prefix_len, AllByRecursion}
+use Rattle.std.specs.Prelude.{◌≡◌, ℕ, Bool, false, ◌&&◌, ◌||◌, ◌==◌, nat_le, List, [], ◌∷◌, IsTrue}
+use Rattle.std.specs.List.{AllByRecursion}
 
 -- 0 to 9
 abbrev pub is_digit : ℕ → Bool

@@ -1,10 +1,12 @@
 -- A token list reads a text: the text is the tokens' spellings in order, with blanks and comments between them, and each spelling as long as
 -- its form allows (ISO 10303-21, clear text encoding: tokens). Nothing here scans.
-use Rattle.std.specs.Prelude.{◌≡◌, ℕ, ◌+◌, ◌<◌, ◌≤◌, Bool, true, false, ◌&&◌, ◌||◌, ◌==◌, nat_eq, ◌⊎◌, List, [], ◌∷◌, ◌++◌, length, count_by, slice_range, IsTrue}
+use Rattle.std.specs.Prelude.{◌≡◌, ℕ, ◌+◌, ◌<◌, ◌≤◌, Bool, false, ◌&&◌, ◌||◌, ◌==◌, nat_eq, ◌⊎◌, List, [], ◌∷◌, ◌++◌, length, take, drop, count_by, slice_range, IsTrue}
 use Rattle.std.specs.List.{concat, starts_with, list_any, AllByRecursion}
 use Rattle.p21_lex.specs.declared.token.TokenKind.{TokenKind}
 use Rattle.p21_lex.specs.declared.token.TokenKind.TheVariants.{Word, UserWord, Name, Int, Real, Text, Enumeration, Binary, Open, Close, Comma, Semicolon, Equals, Dollar, Star}
 use Rattle.p21_lex.specs.declared.token.Token.{Token}
+use Rattle.p21_lex.specs.declared.piece.Piece.{Piece}
+use Rattle.p21_lex.specs.declared.piece.Piece.TheVariants.{Gap, Spelling}
 use Rattle.p21_lex.specs.Class.{is_digit, is_upper, is_plain, is_word, is_hex, is_sign, is_blank, is_legal, Each, NotFirst}
 use Rattle.p21_lex.specs.Number.{name_value}
 
@@ -96,13 +98,22 @@ abbrev pub has_end : List ℕ → Bool
 has_end [] = false
 has_end (b ∷ bs) = starts_with nat_eq (b ∷ bs) (42 ∷ 47 ∷ []) || has_end bs
 
--- a comment: its marks, and legal bytes between them with no closing mark
+-- the inside of a comment: legal bytes with no closing mark
+abbrev pub IsCommentInside : List ℕ → Type 0
+IsCommentInside inside = Each is_legal inside × (has_end inside ≡ false)
+
+-- a comment
 abbrev pub IsComment : List ℕ → Type 0
-IsComment text = (inside : List ℕ) × (text ≡ 47 ∷ 42 ∷ (inside ++ 42 ∷ 47 ∷ [])) × Each is_legal inside × (has_end inside ≡ false)
+IsComment text = (inside : List ℕ) × (text ≡ 47 ∷ 42 ∷ (inside ++ 42 ∷ 47 ∷ [])) × IsCommentInside inside
 
 -- what stands between tokens: one blank, or one whole comment
 abbrev pub IsGap : List ℕ → Type 0
 IsGap text = ((b : ℕ) × (text ≡ b ∷ []) × IsTrue (is_blank b)) ⊎ IsComment text
+
+-- What a piece at the front of the bytes is: a gap, or a spelling that stops there.
+abbrev pub IsPiece : List ℕ → Piece → Type 0
+IsPiece bytes (Gap len) = (len ≤ length bytes) × IsGap (take len bytes)
+IsPiece bytes (Spelling kind len) = (len ≤ length bytes) × Spells kind (take len bytes) × Stops kind (take len bytes) (drop len bytes)
 
 -- The tokens read the bytes, of which the first lies at a place.
 abbrev pub Reads : ℕ → List Token → List ℕ → Type 0

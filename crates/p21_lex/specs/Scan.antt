@@ -1,5 +1,5 @@
 -- Where a text, a binary and a comment end: so many bytes behind the opening mark, up to the closing mark and with it.
-use Rattle.std.specs.Prelude.{ℕ, ◌+◌, ◌<◌, Bool, true, false, ◌==◌, nat_eq, if◌then◌else◌, List, [], ◌∷◌, Result, Ok, Err}
+use Rattle.std.specs.Prelude.{ℕ, ◌+◌, ◌<◌, ◌==◌, nat_eq, if◌then◌else◌, List, [], ◌∷◌, Result, Ok, Err}
 use Rattle.std.specs.List.{starts_with}
 use Rattle.p21_lex.specs.declared.scan.Unclosed.{Unclosed}
 use Rattle.p21_lex.specs.declared.scan.Unclosed.TheVariants.{Cut, Bad}

@@ -1,8 +1,11 @@
 //! The tokens of a whole text.
 
-ghost use Rattle.std.specs.Prelude.{◌≡◌, ◌≤◌, ◌<◌, ◌+◌, ◌++◌, length, OnOk, IfErr};
+ghost use Rattle.std.specs.Prelude.{◌≡◌, ◌≢◌, ◌↔◌, ℕ, ◌≤◌, ◌+◌, ◌++◌, List, [], length, Ok, Err, OnOk, IfOk, IfErr, All, AllPairs};
 ghost use Rattle.p21_lex.specs.Front.{piece_len};
+ghost use Rattle.p21_lex.specs.Reading.{Reads, IsToken, Spells, Stops};
 ghost use Rattle.p21_lex.specs.Tokens.{Gives, piece_tokens, tokens_of};
+ghost use Rattle.p21_lex.specs.declared.token.Token.{Token};
+ghost use Rattle.p21_lex.specs.declared.token.TokenKind.{TokenKind};
 
 use crate::error::LexErr;
 use crate::piece::{Piece, front};
@@ -27,7 +30,11 @@ fn add(found: &mut Vec<Token>, at: u32, piece: Piece) -> Result<(), LexErr>
     ensures memory { IfErr result (λ e. e ≡ LexErr.NoMemory) }
 {
     if let Piece::Spelling(kind, len) = piece {
-        found.push(Token { kind, start: at, end: at + len as u32 })?;
+        found.push(Token {
+            kind,
+            start: at,
+            end: at + len as u32,
+        })?;
     }
     Ok(())
 }
@@ -53,8 +60,33 @@ fn all(alloc: Global, bytes: &[u8]) -> Result<Vec<Token>, LexErr>
 /// comments between them are left out. The error is the first from left to right.
 pub fn tokens(alloc: Global, bytes: &[u8]) -> Result<Vec<Token>, LexErr>
     requires { length bytes.now ≤ 268435456 }
-    // Which list it is, and which error.
+    // What is found reads the text.
+    ensures found { IfOk result (λ v. Reads 0 v.items bytes.now) }
+    // What reads the text is found, unless memory runs out.
+    ensures only { (ts : List Token) → Reads 0 ts bytes.now → Gives (λ v. v.items) result (Ok ts) }
+    // Which error it is.
     ensures exact { Gives (λ v. v.items) result (tokens_of bytes.now) }
+
+    // Where the tokens lie.
+    ensures inside { IfOk result (λ v. All (IsToken bytes.now) v.items) }
+    ensures ordered { IfOk result (λ v. AllPairs (λ t u. t.end ≤ u.start) v.items) }
 {
     all(alloc, bytes)
 }
+
+/// What holds of the tokens of a text, for a caller that has them from elsewhere. It does nothing.
+pub fn tokens_fit(bytes: &[u8], tokens: &[Token])
+    requires { tokens_of bytes.now ≡ Ok tokens.now }
+    ensures found { Reads 0 tokens.now bytes.now }
+    ensures inside { All (IsToken bytes.now) tokens.now }
+    ensures ordered { AllPairs (λ t u. t.end ≤ u.start) tokens.now }
+{}
+
+/// The laws of reading: a token list is that of a text exactly where it reads the text, no text is refused for want of
+/// memory, and where a spelling stops no longer front of the text spells a token. It does nothing.
+pub fn reading_laws()
+    ensures same { (bytes : List ℕ) (ts : List Token) → (tokens_of bytes ≡ Ok ts) ↔ Reads 0 ts bytes }
+    ensures longest { (kind other : TokenKind) (text more rest : List ℕ)
+        → Spells kind text → Stops kind text (more ++ rest) → Spells other (text ++ more) → more ≡ [] }
+    ensures memory { (bytes : List ℕ) → tokens_of bytes ≢ Err LexErr.NoMemory }
+{}

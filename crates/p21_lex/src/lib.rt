@@ -10,6 +10,10 @@ mod scan;
 mod token;
 
 pub use error::LexErr;
-pub use lexer::tokens;
-pub use piece::{Piece, front};
+pub use lexer::{reading_laws, tokens, tokens_fit};
+pub use number::name_number;
+pub use piece::{Piece, front, spells};
 pub use token::{Token, TokenKind};
+
+#[cfg(test)]
+mod tests;

@@ -3,9 +3,11 @@
 ghost use Rattle.std.specs.Prelude.{◌≡◌, ◌≤◌, ◌+◌, length, min, take, All, IsTrue};
 ghost use Rattle.std.specs.Str.Parse.{digits_value};
 ghost use Rattle.p21_lex.specs.Class.{is_digit};
-ghost use Rattle.p21_lex.specs.Number.{sign_len, int_len, exponent_len, fraction_len};
+ghost use Rattle.p21_lex.specs.Number.{sign_len, int_len, exponent_len, fraction_len, name_value};
+ghost use Rattle.p21_lex.specs.Reading.{Spells};
 
 use crate::class::digits_len;
+use crate::token::TokenKind;
 
 /// The greatest value of a name.
 pub const MAX_NAME: u64 = 2_147_483_647;
@@ -52,8 +54,8 @@ pub fn fraction_len(bytes: &[u8]) -> usize
     1 + digits + exponent_len(&rest[digits..])
 }
 
-#[tactic(auto, using(crate::proofs::Values::capped_more))]
 /// The value of digits, or the first number that is too great for a name where the value is greater still.
+#[tactic(auto, using(crate::proofs::Values::capped_more))]
 pub fn capped_value(digits: &[u8]) -> u64
     requires { All (λ b. IsTrue (is_digit b)) digits.now }
     ensures { result ≡ min (digits_value 10 digits.now) 2147483648 }
@@ -63,4 +65,13 @@ pub fn capped_value(digits: &[u8]) -> u64
         value = (value * 10 + u64::from(*digit - b'0')).min(MAX_NAME + 1);
     }
     value
+}
+
+/// The number of an instance's name, from the name's bytes: `#0010` is 10.
+#[tactic(auto, using(crate::proofs::Names::name_filled, crate::proofs::Names::name_digits, crate::proofs::Names::name_small))]
+pub fn name_number(text: &[u8]) -> u32
+    requires { Spells TokenKind.Name text.now }
+    ensures { result ≡ name_value text.now }
+{
+    capped_value(&text[1..]) as u32
 }

@@ -1,9 +1,11 @@
 //! What stands at the front of a text.
 
-ghost use Rattle.std.specs.Prelude.{◌≡◌, ◌≤◌, ◌<◌, ◌+◌, length, IfOk, count_by};
+ghost use Rattle.std.specs.Prelude.{◌≡◌, ◌↔◌, ℕ, ◌≤◌, ◌<◌, ◌+◌, ◌++◌, List, length, IfOk, IsTrue, Ok, count_by};
 ghost use Rattle.p21_lex.specs.Class.{is_digit};
 ghost use Rattle.p21_lex.specs.Front.{number, name, user_word, enumeration, closed, comment, mark, marked, front, piece_len};
+ghost use Rattle.p21_lex.specs.Reading.{IsPiece, Spells, Stops};
 ghost use Rattle.p21_lex.specs.Scan.{text_end, binary_end, IsBelow};
+ghost use Rattle.p21_lex.specs.declared.token.TokenKind.{TokenKind};
 
 use crate::class::{digits_len, is_digit, is_upper, plain_len, word_len};
 use crate::error::LexErr;
@@ -43,7 +45,11 @@ fn number(at: u32, bytes: &[u8]) -> Result<Piece, LexErr>
     if digit_count(&bytes[..len]) > MAX_DIGITS {
         return Err(LexErr::NumberTooLong(at));
     }
-    let kind = if fraction == 0 { TokenKind::Int } else { TokenKind::Real };
+    let kind = if fraction == 0 {
+        TokenKind::Int
+    } else {
+        TokenKind::Real
+    };
     Ok(Piece::Spelling(kind, len))
 }
 
@@ -71,7 +77,10 @@ fn user_word(at: u32, bytes: &[u8]) -> Result<Piece, LexErr>
     ensures within { IfOk result (λ p. (0 < piece_len p) × (piece_len p ≤ 1 + length bytes.now)) }
 {
     match bytes {
-        [first, rest @ ..] if is_upper(*first) => Ok(Piece::Spelling(TokenKind::UserWord, 2 + plain_len(rest))),
+        [first, rest @ ..] if is_upper(*first) => Ok(Piece::Spelling(
+            TokenKind::UserWord,
+            2 + plain_len(rest),
+        )),
         _ => Err(LexErr::BadByte(at)),
     }
 }
@@ -82,7 +91,9 @@ fn enumeration(at: u32, bytes: &[u8]) -> Result<Piece, LexErr>
     ensures exact { result ≡ enumeration at bytes.now }
     ensures within { IfOk result (λ p. (0 < piece_len p) × (piece_len p ≤ 1 + length bytes.now)) }
 {
-    let [first, rest @ ..] = bytes else { return Err(LexErr::BadByte(at)) };
+    let [first, rest @ ..] = bytes else {
+        return Err(LexErr::BadByte(at))
+    };
     let len = plain_len(rest);
     if !is_upper(*first) || len >= rest.len() || rest[len] != b'.' {
         return Err(LexErr::BadByte(at));
@@ -123,7 +134,9 @@ fn comment(at: u32, bytes: &[u8]) -> Result<Piece, LexErr>
     ensures exact { result ≡ comment at bytes.now }
     ensures within { IfOk result (λ p. (0 < piece_len p) × (piece_len p ≤ 1 + length bytes.now)) }
 {
-    let [b'*', rest @ ..] = bytes else { return Err(LexErr::BadByte(at)) };
+    let [b'*', rest @ ..] = bytes else {
+        return Err(LexErr::BadByte(at))
+    };
     match comment_end(rest) {
         Ok(len) => Ok(Piece::Gap(2 + len)),
         Err(Unclosed::Cut) => Err(LexErr::OpenComment(at)),
@@ -158,16 +171,16 @@ fn marked(at: u32, byte: u8) -> Result<Piece, LexErr>
     }
 }
 
-/// What stands at the front of bytes of which the first lies at a place: a blank, a comment or a token, each token as
-/// long as its form allows, or why none of them does (ISO 10303-21, clear text encoding). An empty text has a gap of no bytes.
 #[tactic(auto, unfolding(crate::specs::Front::front))]
-pub fn front(at: u32, bytes: &[u8]) -> Result<Piece, LexErr>
+fn piece_at(at: u32, bytes: &[u8]) -> Result<Piece, LexErr>
     requires { at + length bytes.now ≤ 268435456 }
     ensures exact { result ≡ front at bytes.now }
     ensures within { IfOk result (λ p. piece_len p ≤ length bytes.now) }
     ensures filled { 0 < length bytes.now → IfOk result (λ p. 0 < piece_len p) }
 {
-    let [first, behind @ ..] = bytes else { return Ok(Piece::Gap(0)) };
+    let [first, behind @ ..] = bytes else {
+        return Ok(Piece::Gap(0))
+    };
     match *first {
         b' ' | b'\t' | b'\n' | b'\r' => Ok(Piece::Gap(1)),
         b'A'..=b'Z' | b'_' => Ok(Piece::Spelling(TokenKind::Word, 1 + word_len(behind))),
@@ -180,4 +193,39 @@ pub fn front(at: u32, bytes: &[u8]) -> Result<Piece, LexErr>
         b'/' => comment(at, behind),
         byte => marked(at, byte),
     }
+}
+
+/// What stands at the front of bytes of which the first lies at a place: a blank, a comment or a token, each token as
+/// long as its form allows, or why none of them does (ISO 10303-21, clear text encoding). An empty text has a gap of no bytes.
+pub fn front(at: u32, bytes: &[u8]) -> Result<Piece, LexErr>
+    requires { at + length bytes.now ≤ 268435456 }
+    // What is found there has the form of its kind.
+    ensures found { 0 < length bytes.now → IfOk result (IsPiece bytes.now) }
+    // What has the form, and does not go on, is found.
+    ensures only { (kind : TokenKind) (text rest : List ℕ)
+        → bytes.now ≡ text ++ rest → Spells kind text → Stops kind text rest → result ≡ Ok (Piece.Spelling kind (length text)) }
+    // Which error it is.
+    ensures exact { result ≡ front at bytes.now }
+
+    ensures within { IfOk result (λ p. piece_len p ≤ length bytes.now) }
+    ensures filled { 0 < length bytes.now → IfOk result (λ p. 0 < piece_len p) }
+{
+    piece_at(at, bytes)
+}
+
+fn is_answer(answer: Result<Piece, LexErr>, piece: Piece) -> bool
+    ensures { IsTrue result ↔ (answer ≡ Ok piece) }
+{
+    match answer {
+        Ok(found) => found == piece,
+        Err(_) => false,
+    }
+}
+
+/// Whether a text is the spelling of a kind: all of it, and within the kind's range.
+pub fn spells(kind: TokenKind, text: &[u8]) -> bool
+    requires { length text.now ≤ 268435456 }
+    ensures { IsTrue result ↔ Spells kind text.now }
+{
+    is_answer(front(0, text), Piece::Spelling(kind, text.len()))
 }

@@ -5,7 +5,7 @@ use Rattle.p21_parse.specs.Tree.{Tree, one, reference, list, Trees, none, first,
 use Rattle.p21_parse.specs.Symbol.{Symbol, value, name, keyword, dashed, opening, closing, comma, semicolon, equals, is_user}
 use Rattle.p21_parse.specs.Spell.{spell, spell_list, spell_more, spell_all, spell_part, spell_entry, spell_instance, spell_file}
 use Rattle.p21_parse.specs.PlainFile.{is_plain_kind, IsPlain, ArePlain, IsPlainPart, IsPlainInstance}
-use Rattle.p21_parse.specs.Parse.{◌>>=◌, many, all_of, value_at, begins_more, more_at, after_closing, after_semicolon, some_at, list_at, one_at, param_at, part_at, begins_entry, entry_at, begins_instance, instance_at, is_same, after_word, file_at}
+use Rattle.p21_parse.specs.Parse.{◌>>=◌, many, all_of, value_at, begins_more, more_at, after_closing, after_semicolon, some_at, list_at, one_at, keyword_at, after_opening, name_at, after_equals, after_same, param_at, part_at, begins_entry, entry_at, begins_instance, instance_at, is_same, after_word, file_at}
 use Rattle.std.proofs.Common.{codes}
 use Rattle.std.proofs.lemmas.Slice.Eq.{bytes_eq-Decides}
 use borrow.Author.Tests.{eqb-true}
@@ -113,15 +113,39 @@ param_found (suc room) (opening ∷ ss) p e =
     subst (λ (p : Tree × List Symbol). IsPlain (suc room) p.0 × (opening ∷ ss ≡ spell p.0 p.1)) same (there.0, ap (λ (more : List Symbol). opening ∷ more) there.1)
 param_found (suc room) (s ∷ ss) p e = one_found (suc room) (s ∷ ss) p e
 
+keyword_found : (ss : List Symbol) (x : List ℕ × List Symbol) → keyword_at ss ≡ Some x → (is_user x.0 ≡ false) × (ss ≡ keyword x.0 ∷ x.1)
+keyword_found (keyword text ∷ ss) x e =
+    let ok = failed (is_user text) (Some (text, ss)) x e in
+    let same : (text, ss) ≡ x = let was = ok.1 in cc in
+    subst (λ (x : List ℕ × List Symbol). (is_user x.0 ≡ false) × (keyword text ∷ ss ≡ keyword x.0 ∷ x.1)) same (ok.0, refl)
+keyword_found ss x e = absurd cc
+
+name_found : (ss : List Symbol) (x : ℕ × List Symbol) → name_at ss ≡ Some x → ss ≡ name x.0 ∷ x.1
+name_found (name number ∷ ss) x e =
+    let same : (number, ss) ≡ x = cc in
+    ap (λ (x : ℕ × List Symbol). name x.0 ∷ x.1) same
+name_found ss x e = absurd cc
+
+opened : (ss rest : List Symbol) → after_opening ss ≡ Some rest → ss ≡ opening ∷ rest
+opened (opening ∷ ss) rest e = let same : ss ≡ rest = cc in ap (λ (more : List Symbol). opening ∷ more) same
+opened ss rest e = absurd cc
+
+equated : (ss rest : List Symbol) → after_equals ss ≡ Some rest → ss ≡ equals ∷ rest
+equated (equals ∷ ss) rest e = let same : ss ≡ rest = cc in ap (λ (more : List Symbol). equals ∷ more) same
+equated ss rest e = absurd cc
+
 pub part_found : Finds IsPlainPart spell_part part_at
 unfolding part_at
-part_found (keyword text ∷ opening ∷ ss) p e =
-    let ok = failed (is_user text) _ p e in
-    let x = bound (list_at (param_at 1) ss) _ p ok.1 in
-    let there = list_found 1 (param_at 1) (param_found 1) ss x.value x.was in
-    let same : (record { keyword = text; parameters = x.value.0 }, x.value.1) ≡ p = let gave = x.gave in cc in
-    subst (λ (p : PartTree × List Symbol). IsPlainPart p.0 × (keyword text ∷ opening ∷ ss ≡ spell_part p.0 p.1)) same ((ok.0, there.0), ap (λ (more : List Symbol). keyword text ∷ opening ∷ more) there.1)
-part_found ss p e = absurd cc
+part_found ss p e =
+    let text = bound (keyword_at ss) _ p e in
+    let inner = bound (after_opening text.value.1) _ p text.gave in
+    let x = bound (list_at (param_at 1) inner.value) _ p inner.gave in
+    let front = keyword_found ss text.value text.was in
+    let there = list_found 1 (param_at 1) (param_found 1) inner.value x.value x.was in
+    let same : (record { keyword = text.value.0; parameters = x.value.0 }, x.value.1) ≡ p = let gave = x.gave in cc in
+    let spelled : ss ≡ keyword text.value.0 ∷ opening ∷ spell_list x.value.0 x.value.1 =
+    front.1 ∙ ap (λ (more : List Symbol). keyword text.value.0 ∷ more) (opened text.value.1 inner.value inner.was ∙ ap (λ (more : List Symbol). opening ∷ more) there.1) in
+    subst (λ (p : PartTree × List Symbol). IsPlainPart p.0 × (ss ≡ spell_part p.0 p.1)) same ((front.0, there.0), spelled)
 
 pub entry_found : Finds IsPlainPart spell_entry entry_at
 unfolding entry_at
@@ -134,25 +158,33 @@ entry_found ss p e =
 
 pub instance_found : Finds IsPlainInstance spell_instance instance_at
 unfolding instance_at
-instance_found (name number ∷ equals ∷ ss) p e =
-    let x = bound (entry_at ss) _ p e in
-    let here = entry_found ss x.value x.was in
-    let same : (record { number = number; complex = false; parts = x.value.0 ∷ [] }, x.value.1) ≡ p = let gave = x.gave in cc in
-    subst (λ (p : InstanceTree × List Symbol). IsPlainInstance p.0 × (name number ∷ equals ∷ ss ≡ spell_instance p.0 p.1)) same ((refl, here.0), ap (λ (more : List Symbol). name number ∷ equals ∷ more) here.1)
-instance_found ss p e = absurd cc
+instance_found ss p e =
+    let number = bound (name_at ss) _ p e in
+    let body = bound (after_equals number.value.1) _ p number.gave in
+    let x = bound (entry_at body.value) _ p body.gave in
+    let here = entry_found body.value x.value x.was in
+    let same : (record { number = number.value.0; complex = false; parts = x.value.0 ∷ [] }, x.value.1) ≡ p = let gave = x.gave in cc in
+    let spelled : ss ≡ name number.value.0 ∷ equals ∷ spell_entry x.value.0 x.value.1 =
+    name_found ss number.value number.was ∙ ap (λ (more : List Symbol). name number.value.0 ∷ more) (equated number.value.1 body.value body.was ∙ ap (λ (more : List Symbol). equals ∷ more) here.1) in
+    subst (λ (p : InstanceTree × List Symbol). IsPlainInstance p.0 × (ss ≡ spell_instance p.0 p.1)) same ((refl, here.0), spelled)
 
 same_word : (s w : Symbol) → is_same s w ≡ true → s ≡ w
 same_word (keyword v) (keyword w) e = ap keyword ((bytes_eq-Decides v w).0 e)
 same_word (dashed v) (dashed w) e = ap dashed ((bytes_eq-Decides v w).0 e)
 same_word s w e = absurd cc
 
-pub word_found : (w : Symbol) (ss rest : List Symbol) → after_word w ss ≡ Some rest → ss ≡ w ∷ semicolon ∷ rest
-unfolding after_word
-word_found w (s ∷ semicolon ∷ ss) rest e =
+same_found : (w : Symbol) (ss rest : List Symbol) → after_same w ss ≡ Some rest → ss ≡ w ∷ rest
+same_found w [] rest e = absurd cc
+same_found w (s ∷ ss) rest e =
     let ok = passed (is_same s w) (Some ss) rest e in
     let same : ss ≡ rest = let was = ok.1 in cc in
-    ap (λ (v : Symbol). v ∷ semicolon ∷ ss) (same_word s w ok.0) ∙ ap (λ (more : List Symbol). w ∷ semicolon ∷ more) same
-word_found w ss rest e = absurd cc
+    ap (λ (v : Symbol). v ∷ ss) (same_word s w ok.0) ∙ ap (λ (more : List Symbol). w ∷ more) same
+
+pub word_found : (w : Symbol) (ss rest : List Symbol) → after_word w ss ≡ Some rest → ss ≡ w ∷ semicolon ∷ rest
+unfolding after_word
+word_found w ss rest e =
+    let more = bound (after_same w ss) _ rest e in
+    same_found w ss more.value more.was ∙ ap (λ (more : List Symbol). w ∷ more) (ended more.value rest more.gave)
 
 empty : (ss : List Symbol) → (length ss == 0) ≡ true → ss ≡ []
 empty [] e = refl

@@ -2,3 +2,12 @@ pub mod ListLemmas
 pub mod Bind
 pub mod Found
 pub mod Only
+pub mod Symbols
+pub mod Loop
+pub mod ViewLemmas
+pub mod ParamSteps
+pub mod PartSteps
+pub mod Words
+pub mod LayoutLemmas
+pub mod NumberLemmas
+pub mod PlainLemmas

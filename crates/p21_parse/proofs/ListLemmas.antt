@@ -16,7 +16,7 @@ count-trees : (ts : List Tree) → count (trees ts) ≡ length ts
 count-trees [] = refl
 count-trees (t ∷ ts) = omega (arith, count-trees ts)
 
-trees-push : (ts : List Tree) (u : Tree) → trees (ts ++ u ∷ []) ≡ with_last (trees ts) u
+pub trees-push : (ts : List Tree) (u : Tree) → trees (ts ++ u ∷ []) ≡ with_last (trees ts) u
 trees-push [] u = refl
 trees-push (t ∷ ts) u = ap (λ (us : Trees). first t us) (trees-push ts u)
 

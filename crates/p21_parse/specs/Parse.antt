@@ -1,6 +1,10 @@
 -- What stands at the front of symbols in a plain file, and the symbols behind it; None where no such thing stands there.
-use Rattle.std.specs.Prelude.{◌≡◌, ℕ, zero, suc, ◌+◌, Bool, true, false, ◌==◌, if◌then◌else◌, List, [], ◌∷◌, length, Option, Some, None, Result, Ok, Err, codes}
+use Rattle.std.specs.Prelude.{◌≡◌, ℕ, zero, suc, ◌+◌, ◌<◌, Bool, true, false, ◌==◌, if◌then◌else◌, List, [], ◌∷◌, length, Option, Some, None, Result, Ok, Err, codes}
 use Rattle.std.specs.Str.{bytes_eq}
+use Rattle.std.specs.List.{AllByRecursion}
+use Rattle.p21_lex.specs.declared.token.TokenKind.{TokenKind}
+use Rattle.p21_lex.specs.declared.token.Token.{Token}
+use Rattle.p21_lex.specs.Reading.{IsToken}
 use Rattle.p21_parse.specs.declared.error.ReadErr.{ReadErr}
 use Rattle.p21_parse.specs.declared.error.ReadErr.TheVariants.{NotBuilt, NoMemory}
 use Rattle.p21_parse.specs.Tree.{Tree, one, reference, list, Trees, none, first, trees, PartTree, InstanceTree, ExchangeTree}
@@ -20,6 +24,22 @@ Fails NoMemory said = Unit {0}
 abbrev pub Gives : {X Y : Type 0} → (X → Y) → Result X ReadErr → Option Y → Type 0
 Gives view (Ok x) said = said ≡ Some (view x)
 Gives view (Err e) said = Fails e said
+
+-- The first token is of a kind, and these stand behind it.
+pub record Behind (kind : TokenKind) (tokens rest : List Token) : Type 0 where
+  pub token : Token
+  pub first : tokens ≡ token ∷ rest
+  pub is : token.kind ≡ kind
+
+-- The first token, if there is one, is of another kind.
+abbrev pub IsNotFirst : TokenKind → List Token → Type 0
+IsNotFirst kind [] = Unit {0}
+IsNotFirst kind (t ∷ ts) = t.kind ≡ kind → ⊥
+
+-- Tokens of the bytes, fewer than there were.
+pub record IsBehind (bytes : List ℕ) (tokens rest : List Token) : Type 0 where
+  pub shorter : length rest < length tokens
+  pub inside : AllByRecursion (IsToken bytes) rest
 
 -- things as long as one begins, in so many steps at most
 unfoldable pub many : {X : Type 0} → (List Symbol → Bool) → (List Symbol → Option (X × List Symbol)) → ℕ → List Symbol → Option (List X × List Symbol)
@@ -78,10 +98,21 @@ param_at zero ss = one_at ss
 param_at (suc room) (opening ∷ ss) = list_at (param_at room) ss >>= λ x. Some (list x.0, x.1)
 param_at (suc room) ss = one_at ss
 
+-- a keyword that is no user's
+abbrev pub keyword_at : List Symbol → Option (List ℕ × List Symbol)
+keyword_at (keyword text ∷ ss) = if is_user text then None else Some (text, ss)
+keyword_at _ = None
+
+abbrev pub after_opening : List Symbol → Option (List Symbol)
+after_opening (opening ∷ ss) = Some ss
+after_opening _ = None
+
 unfoldable pub part_at : List Symbol → Option (PartTree × List Symbol)
-part_at (keyword text ∷ opening ∷ ss) =
-    if is_user text then None else (list_at (param_at 1) ss >>= λ x. Some (record { keyword = text; parameters = x.0 }, x.1))
-part_at _ = None
+part_at ss = do
+  word ← keyword_at ss
+  inner ← after_opening word.1
+  x ← list_at (param_at 1) inner
+  Some (record { keyword = word.0; parameters = x.0 }, x.1)
 
 abbrev pub begins_entry : List Symbol → Bool
 begins_entry (s ∷ opening ∷ ss) = true
@@ -97,9 +128,20 @@ abbrev pub begins_instance : List Symbol → Bool
 begins_instance (name number ∷ ss) = true
 begins_instance _ = false
 
+abbrev pub name_at : List Symbol → Option (ℕ × List Symbol)
+name_at (name number ∷ ss) = Some (number, ss)
+name_at _ = None
+
+abbrev pub after_equals : List Symbol → Option (List Symbol)
+after_equals (equals ∷ ss) = Some ss
+after_equals _ = None
+
 unfoldable pub instance_at : List Symbol → Option (InstanceTree × List Symbol)
-instance_at (name number ∷ equals ∷ ss) = entry_at ss >>= λ x. Some (record { number = number; complex = false; parts = x.0 ∷ [] }, x.1)
-instance_at _ = None
+instance_at ss = do
+  number ← name_at ss
+  body ← after_equals number.1
+  x ← entry_at body
+  Some (record { number = number.0; complex = false; parts = x.0 ∷ [] }, x.1)
 
 -- whether two symbols are one word
 abbrev pub is_same : Symbol → Symbol → Bool
@@ -107,10 +149,16 @@ is_same (keyword v) (keyword w) = bytes_eq v w
 is_same (dashed v) (dashed w) = bytes_eq v w
 is_same _ _ = false
 
+-- behind a word
+abbrev pub after_same : Symbol → List Symbol → Option (List Symbol)
+after_same w [] = None
+after_same w (s ∷ ss) = if is_same s w then Some ss else None
+
 -- behind a word and its semicolon
 unfoldable pub after_word : Symbol → List Symbol → Option (List Symbol)
-after_word w (s ∷ semicolon ∷ ss) = if is_same s w then Some ss else None
-after_word w _ = None
+after_word w ss = do
+  rest ← after_same w ss
+  after_semicolon rest
 
 -- a whole file
 unfoldable pub file_at : List Symbol → Option ExchangeTree

@@ -80,15 +80,20 @@ IsPlainInstance i = (i.complex ≡ false) × IsOnePart i.parts
 abbrev pub number_of : InstanceTree → ℕ
 number_of i = i.number
 
--- The text is a plain file that spells the exchange: it begins with those lines, its tokens stand in lines, they spell the exchange in the
--- grammar, its parameters are of the plain kinds, no number comes twice, and there are at most 200,000 instances.
+-- An exchange that a plain file may spell: its parts and instances are plain, no number comes twice, and there are at most 200,000
+-- instances.
+pub record IsPlainExchange (x : ExchangeTree) : Type 0 where
+  pub head : AllByRecursion IsPlainPart x.head
+  pub items : AllByRecursion IsPlainInstance x.items
+  pub distinct : IsDistinct nat_eq (map number_of x.items)
+  pub few : length x.items ≤ 200000
+
+-- The text is a plain file that spells the exchange: it begins with those lines, it stands in lines, and its tokens spell the exchange in the
+-- grammar.
 pub record IsPlainFile (bytes : List ℕ) (x : ExchangeTree) : Type 0 where
   pub tokens : List Token
   pub reads : Reads 0 tokens bytes
   pub header : starts_with nat_eq bytes plain_head ≡ true
   pub tight : is_tight bytes 0 tokens ≡ true
   pub spelled : symbols bytes tokens ≡ spell_file x
-  pub head : AllByRecursion IsPlainPart x.head
-  pub items : AllByRecursion IsPlainInstance x.items
-  pub distinct : IsDistinct nat_eq (map number_of x.items)
-  pub few : length x.items ≤ 200000
+  pub plain : IsPlainExchange x

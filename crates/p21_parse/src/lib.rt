@@ -1,10 +1,18 @@
 //! Exchanges of ISO 10303-21 clear text: their trees, and the plain file.
 #![tactic(auto)]
 
+mod distinct;
 mod error;
 mod exchange;
+mod layout;
 mod param;
+mod parse;
+mod reading;
 
 pub use error::ReadErr;
 pub use exchange::{Exchange, Instance, InstanceList, Part, PartList};
 pub use param::{Param, ParamList};
+pub use reading::{one_exchange, read};
+
+#[cfg(test)]
+mod tests;

@@ -10,11 +10,17 @@ use Rattle.path_blocks.specs.declared.def.Shape.TheVariants.{Drill}
 abbrev pub dwell_blocks : ℤ → List Block
 dwell_blocks ms = if int_lt (pos 0) ms then Dwell ms ∷ [] else []
 
--- over the place, down to the retract plane, feed to the bottom, dwell, and back up
+-- the tool, over the place, down to the retract plane, and feed to the bottom
+abbrev pub down_into : Def → ℤ → ℤ → List Block
+down_into d x y = Tool d.tool d.spindle ∷ Rapid x y d.sec ∷ Rapid x y d.ret ∷ Feed x y d.bottom d.feed ∷ []
+
+-- back up to the retract plane and to the security plane
+abbrev pub up_from : Def → ℤ → ℤ → List Block
+up_from d x y = Rapid x y d.ret ∷ Rapid x y d.sec ∷ []
+
+-- a drilled hole
 abbrev pub path_drill : Def → ℤ → ℤ → ℤ → List Block
-path_drill d x y dwell =
-    (Tool d.tool d.spindle ∷ Rapid x y d.sec ∷ Rapid x y d.ret ∷ Feed x y d.bottom d.feed ∷ [])
-    ++ (dwell_blocks dwell ++ (Rapid x y d.ret ∷ Rapid x y d.sec ∷ []))
+path_drill d x y dwell = down_into d x y ++ (dwell_blocks dwell ++ up_from d x y)
 
 abbrev pub path_of_shape : Def → Shape → List Block
 path_of_shape d (Drill x y dwell) = path_drill d x y dwell

@@ -1,9 +1,9 @@
-use Rattle.std.proofs.Common.{◌≡◌, ◌+◌, ◌<◌, ◌≤◌, ◌++◌, length, take, drop, sym, arith}
+use Rattle.std.proofs.Common.{◌<◌, ◌≤◌, length, sym, arith}
 use Rattle.std.proofs.lemmas.Result.{err_from_is_err_and}
 use Rattle.std.proofs.lemmas.List.{take_rest, length-drop}
 use Rattle.p21_lex.specs.Front.{piece_len}
-use Rattle.p21_lex.specs.Tokens.{tokens_of, piece_tokens}
-use Rattle.p21_lex.proofs.Loop.{Reached, begun, goes_on, fails, is_done, is_filled, is_empty}
+use Rattle.p21_lex.specs.Tokens.{tokens_of}
+use Rattle.p21_lex.proofs.Loop.{begun, goes_on, fails, is_done, is_filled, is_empty}
 use Rattle.p21_lex.proofs.lexer.all.Goals as goal
 
 pub loop-rest-init : goal.loop-rest-init

@@ -1,0 +1,14 @@
+use Rattle.p21_lex.proofs.Places.{is_found, is_only, is_inside, is_ordered}
+use Rattle.p21_lex.proofs.lexer.tokens.Goals as goal
+
+pub returns-clause-found : goal.returns-clause-found
+returns-clause-found c = is_found c.args.bytes.now c.all.result c.all.ensures
+
+pub returns-clause-only : goal.returns-clause-only
+returns-clause-only c = is_only c.args.bytes.now c.all.result c.all.ensures
+
+pub returns-clause-inside : goal.returns-clause-inside
+returns-clause-inside c = is_inside c.args.bytes.now c.all.result c.all.ensures
+
+pub returns-clause-ordered : goal.returns-clause-ordered
+returns-clause-ordered c = is_ordered c.args.bytes.now c.all.result c.all.ensures

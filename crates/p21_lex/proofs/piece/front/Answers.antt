@@ -1,0 +1,8 @@
+use Rattle.p21_lex.proofs.Pieces.{is_piece, is_token}
+use Rattle.p21_lex.proofs.piece.front.Goals as goal
+
+pub returns-clause-found : goal.returns-clause-found
+returns-clause-found c = is_piece c.args.at c.args.bytes.now c.piece_at.result c.piece_at.ensures.exact
+
+pub returns-clause-only : goal.returns-clause-only
+returns-clause-only c = is_token c.args.at c.args.bytes.now c.piece_at.result c.piece_at.ensures.exact

@@ -1,0 +1,68 @@
+//! The path of a drilled hole.
+#![tactic(auto)]
+
+ghost use Rattle.std.specs.Prelude.{◌≡◌, ◌++◌, IfOk, OnOk};
+ghost use Rattle.path_blocks.specs.Path.{down_into, dwell_blocks, path_drill, up_from};
+
+use nc_base::NoMemory;
+use path_blocks::{Block, Def, Plan, Shape};
+use std::alloc::Global;
+
+/// Puts the dwell at the bottom, where there is one.
+fn push_dwell(blocks: &mut Vec<Block>, dwell: i64) -> Result<(), NoMemory>
+    ensures { OnOk result (blocks.new.items ≡ blocks.old.items ++ dwell_blocks dwell) }
+{
+    if dwell > 0 {
+        blocks.push(Block::Dwell { ms: dwell })?;
+    }
+    Ok(())
+}
+
+/// Puts the tool, the move over the place and down to the retract plane, and the feed to the bottom.
+fn push_down(blocks: &mut Vec<Block>, def: &Def, x: i64, y: i64) -> Result<(), NoMemory>
+    ensures { OnOk result (blocks.new.items ≡ blocks.old.items ++ down_into def.now x y) }
+{
+    blocks.push(Block::Tool {
+        tool: def.tool,
+        spindle: def.spindle,
+    })?;
+    blocks.push(Block::Rapid { x, y, z: def.sec })?;
+    blocks.push(Block::Rapid { x, y, z: def.ret })?;
+    blocks.push(Block::Feed {
+        x,
+        y,
+        z: def.bottom,
+        f: def.feed,
+    })?;
+    Ok(())
+}
+
+/// Puts the moves back up to the retract plane and to the security plane.
+fn push_up(blocks: &mut Vec<Block>, def: &Def, x: i64, y: i64) -> Result<(), NoMemory>
+    ensures { OnOk result (blocks.new.items ≡ blocks.old.items ++ up_from def.now x y) }
+{
+    blocks.push(Block::Rapid { x, y, z: def.ret })?;
+    blocks.push(Block::Rapid { x, y, z: def.sec })?;
+    Ok(())
+}
+
+/// The blocks of a hole at x and y.
+fn blocks_of(alloc: Global, def: &Def, x: i64, y: i64, dwell: i64) -> Result<Vec<Block>, NoMemory>
+    ensures { IfOk result (λ blocks. blocks.items ≡ path_drill def.now x y dwell) }
+{
+    let mut blocks = Vec::with_capacity(alloc, 7)?;
+    push_down(&mut blocks, def, x, y)?;
+    push_dwell(&mut blocks, dwell)?;
+    push_up(&mut blocks, def, x, y)?;
+    Ok(blocks)
+}
+
+/// The path of a definition whose shape is a drilled hole: over the place, down to the retract plane, feed to the bottom,
+/// dwell there if the definition says so, and back up. The rule is this profile's.
+pub fn path(alloc: Global, def: &Def) -> Result<Plan, NoMemory>
+    ensures { IfOk result (λ plan. plan ≡ def.now) }
+{
+    match def.shape {
+        Shape::Drill { x, y, dwell } => Ok(Plan::new(*def, blocks_of(alloc, def, x, y, dwell)?)),
+    }
+}

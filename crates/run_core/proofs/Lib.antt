@@ -1,0 +1,5 @@
+pub mod Among
+pub mod Segments
+pub mod Standing
+pub mod Legality
+pub mod Growing

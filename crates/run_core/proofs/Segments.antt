@@ -1,0 +1,154 @@
+-- The entries of one workingstep.
+use Rattle.std.proofs.Common.{◌≡◌, ℕ, zero, suc, ◌+◌, ◌<◌, Bool, true, false, cond, eqb, List, [], ◌∷◌, ◌++◌, length, Option, Some, None, refl, sym, ap, subst, ◌∙◌, arith, inl, inr}
+use Rattle.std.specs.Prelude.{filter, ◌⊎◌, ◌||◌, not, slice_get, IsSomeAnd, count_by}
+use Rattle.std.specs.List.{list_any}
+use Rattle.std.proofs.lemmas.List.Sums.{sum_by-cons}
+use Rattle.path_blocks.specs.declared.block.Block.{Block}
+use Rattle.run_log.specs.declared.entry.Entry.{Entry}
+use Rattle.run_log.specs.declared.entry.Entry.TheVariants as entries
+use Rattle.trace_law.specs.Of.{has, number_of, is_of, only}
+use Rattle.trace_law.specs.Whole.{IsCut, IsWork}
+use Rattle.trace_law.specs.Next.{next_work}
+use Rattle.run_core.specs.State.{dispatches, cuts, ends, since, since_by, is_open, blocks_since}
+use Rattle.run_core.specs.Fits.{HasValues}
+use Rattle.run_core.specs.PlainRun.{cut_from, segment}
+use Rattle.run_core.proofs.Among.{no_way, either, same, of_itself, not_of, since_none}
+
+-- ---- the entries of a segment are of its node
+
+cut_of : (n k : ℕ) (bs : List Block) → only (n ∷ []) (cut_from n k bs ++ entries.End n ∷ []) ≡ cut_from n k bs ++ entries.End n ∷ []
+cut_of n k [] = rw (same n) refl
+cut_of n k (b ∷ bs) = rw (same n, cut_of n (k + 1) bs) refl
+
+pub segment_of : (n : ℕ) (bs : List Block) → only (n ∷ []) (segment n bs) ≡ segment n bs
+unfolding segment
+segment_of n bs = rw (same n, cut_of n 0 bs) refl
+
+cut_of_other : (m n k : ℕ) (bs : List Block) → eqb m n ≡ false → only (m ∷ []) (cut_from n k bs ++ entries.End n ∷ []) ≡ []
+cut_of_other m n k [] e = rw e refl
+cut_of_other m n k (b ∷ bs) e = rw (e, cut_of_other m n (k + 1) bs e) refl
+
+pub segment_of_other : (m n : ℕ) (bs : List Block) → eqb m n ≡ false → only (m ∷ []) (segment n bs) ≡ []
+unfolding segment
+segment_of_other m n bs e = rw (e, cut_of_other m n 0 bs e) refl
+
+-- ---- a segment is a whole run of its node
+
+cut_is : (n k : ℕ) (bs : List Block) → IsCut n k (cut_from n k bs ++ entries.End n ∷ [])
+cut_is n k [] = (refl, refl)
+cut_is n k (b ∷ bs) = (refl, refl, cut_is n (k + 1) bs)
+
+pub segment_is_work : (n : ℕ) (bs : List Block) → IsWork n (segment n bs)
+unfolding segment
+segment_is_work n bs = (refl, cut_is n 0 bs)
+
+-- ---- within a segment
+
+-- the blocks so far of n, behind its dispatch
+pub record Cutting (n : ℕ) (t : List Entry) : Type 0 where
+  pub of_n : only (n ∷ []) t ≡ t
+  pub no_dispatch : since n t ≡ None
+  pub no_end : list_any (ends n) t ≡ false
+  pub counted : count_by (cuts n) t ≡ length t
+  pub goes_on : next_work n t ≡ n ∷ []
+
+nothing_cut : (n : ℕ) → Cutting n []
+nothing_cut n = record { of_n = refl; no_dispatch = refl; no_end = refl; counted = refl; goes_on = refl }
+
+one : (test : Bool) (count len : ℕ) → test ≡ true → count ≡ len → cond test 1 0 + count ≡ suc len
+one test count len t e = rw (t, e) (omega arith)
+
+one_more_cut : (n k : ℕ) (b : Block) (t : List Entry) → Cutting n t → Cutting n (entries.Block n k b ∷ t)
+one_more_cut n k b t cut = record {
+  of_n = rw (same n, cut.of_n) refl;
+  no_dispatch = rw cut.no_dispatch refl;
+  no_end = cut.no_end;
+  counted = sum_by-cons (λ (x : Entry). cond (cuts n x) 1 0) (entries.Block n k b) t ∙ one (eqb n n) (count_by (cuts n) t) (length t) (same n) cut.counted;
+  goes_on = cut.goes_on;
+}
+
+-- what may come behind so many blocks of n, counted from k: the next block of the path, or the end
+abbrev pub Follows : ℕ → ℕ → List Block → ℕ → Entry → Type 0
+Follows n k path i x = ((b : Block) × (slice_get path i ≡ Some b) × (x ≡ entries.Block n (k + i) b)) ⊎ ((length path ≡ i) × (x ≡ entries.End n))
+
+abbrev behind_block : ℕ → ℕ → Block → List Block → List Entry → Entry → Type 0
+behind_block n k b bs t x = Cutting n t × Follows n k (b ∷ bs) (length t) x
+
+shift : (n k : ℕ) (b : Block) (bs : List Block) (i : ℕ) (x : Entry) → Follows n (k + 1) bs i x → Follows n k (b ∷ bs) (suc i) x
+shift n k b bs i x (inl (c, at, is)) = let e : k + 1 + i ≡ k + suc i = omega arith in inl (c, at, is ∙ ap (λ (j : ℕ). entries.Block n j c) e)
+shift n k b bs i x (inr (len, is)) = inr (ap suc len, is)
+
+cut_at : (n k : ℕ) (path : List Block) (t : List Entry) (x : Entry) (w : List Entry) → t ++ x ∷ w ≡ cut_from n k path ++ entries.End n ∷ [] → Cutting n t × Follows n k path (length t) x
+cut_at n k [] [] x w e = let head : x ≡ entries.End n = cc in (nothing_cut n, inr (refl, head))
+cut_at n k [] (y ∷ t) x w e = let tail : t ++ x ∷ w ≡ [] = cc in absurd (none t tail)
+  where
+    none : (t : List Entry) → t ++ x ∷ w ≡ [] → ⊥
+    none [] e = absurd (cc)
+    none (z ∷ t) e = absurd (cc)
+cut_at n k (b ∷ bs) [] x w e =
+    let head : x ≡ entries.Block n k b = cc in
+    let here : k ≡ k + 0 = omega arith in
+    (nothing_cut n, inl (b, refl, head ∙ ap (λ (j : ℕ). entries.Block n j b) here))
+cut_at n k (b ∷ bs) (y ∷ t) x w e =
+    let head : y ≡ entries.Block n k b = cc in
+    let tail : t ++ x ∷ w ≡ cut_from n (k + 1) bs ++ entries.End n ∷ [] = cc in
+    let later = cut_at n (k + 1) bs t x w tail in
+    (subst (λ (z : Entry). Cutting n (z ∷ t)) (sym head) (one_more_cut n k b t later.0), shift n k b bs (length t) x later.1)
+
+-- where a run stands inside a segment
+pub record Inside (n : ℕ) (path : List Block) (t : List Entry) (x : Entry) : Type 0 where
+  pub of_n : only (n ∷ []) t ≡ t
+  pub x_of_n : number_of x ≡ Some n
+  pub goes_on : next_work n t ≡ n ∷ []
+  pub values : (paths : ℕ → Option (List Block)) → paths n ≡ Some path → HasValues paths t x
+
+values_at : (n : ℕ) (path : List Block) (t : List Entry) (x : Entry) → Cutting n t → Follows n 0 path (length t) x → (paths : ℕ → Option (List Block)) → paths n ≡ Some path → HasValues paths (entries.Dispatch n 0 ∷ t) x
+values_at n path t x cut (inl (b, at, is)) paths given =
+    let i : 0 + length t ≡ length t = omega arith in
+    subst (λ (y : Entry). HasValues paths (entries.Dispatch n 0 ∷ t) y) (sym is) (rw (given, i) at)
+values_at n path t x cut (inr (len, is)) paths given =
+    subst (λ (y : Entry). HasValues paths (entries.Dispatch n 0 ∷ t) y) (sym is) (rw (given, cut.no_dispatch, same n, cut.counted) len)
+
+number_at : (n k : ℕ) (path : List Block) (i : ℕ) (x : Entry) → Follows n k path i x → number_of x ≡ Some n
+number_at n k path i x (inl (b, at, is)) = ap number_of is
+number_at n k path i x (inr (len, is)) = ap number_of is
+
+pub inside : (n : ℕ) (path : List Block) (t : List Entry) (x : Entry) (w : List Entry) → t ++ x ∷ w ≡ segment n path → Inside n path t x
+unfolding segment
+inside n path [] x w e =
+    let head : x ≡ entries.Dispatch n 0 = cc in
+    record { of_n = refl; x_of_n = ap number_of head; goes_on = refl; values = λ paths given. subst (λ (y : Entry). HasValues paths [] y) (sym head) refl }
+inside n path (y ∷ t) x w e =
+    let head : y ≡ entries.Dispatch n 0 = cc in
+    let tail : t ++ x ∷ w ≡ cut_from n 0 path ++ entries.End n ∷ [] = cc in
+    let at = cut_at n 0 path t x w tail in
+    subst (λ (z : Entry). Inside n path (z ∷ t) x) (sym head) record {
+      of_n = rw (same n, at.0.of_n) refl;
+      x_of_n = number_at n 0 path (length t) x at.1;
+      goes_on = at.0.goes_on;
+      values = values_at n path t x at.0 at.1;
+    }
+
+-- ---- behind a segment
+
+-- a node that has ended, and wasn't dispatched again, is closed
+pub closed_behind : (n : ℕ) (path : List Block) (t : List Entry) → only (n ∷ []) t ≡ [] → is_open n (segment n path ++ t) ≡ false
+unfolding segment
+closed_behind n path t e = rw (no_dispatch n 0 path t e, same n, has_end n 0 path t) refl
+  where
+    no_dispatch : (n k : ℕ) (bs : List Block) (t : List Entry) → only (n ∷ []) t ≡ [] → since n ((cut_from n k bs ++ entries.End n ∷ []) ++ t) ≡ None
+    no_dispatch n k [] t e = rw (since_none n t e) refl
+    no_dispatch n k (b ∷ bs) t e = rw (no_dispatch n (k + 1) bs t e) refl
+
+    has_end : (n k : ℕ) (bs : List Block) (t : List Entry) → list_any (ends n) ((cut_from n k bs ++ entries.End n ∷ []) ++ t) ≡ true
+    has_end n k [] t = rw (same n) refl
+    has_end n k (b ∷ bs) t = has_end n (k + 1) bs t
+
+-- nothing is left to do behind a segment
+pub segment_over : (n : ℕ) (path : List Block) → next_work n (segment n path) ≡ []
+unfolding segment
+segment_over n path = over n 0 path
+  where
+    over : (n k : ℕ) (bs : List Block) → next_work n (cut_from n k bs ++ entries.End n ∷ []) ≡ []
+    over n k [] = refl
+    over n k (b ∷ bs) = over n (k + 1) bs

@@ -1,0 +1,13 @@
+use Rattle.run_core.proofs.Legality.{grown_legal, ends_so, grown_within}
+use Rattle.run_core.proofs.plain.run.Goals as goal
+use Rattle.run_core.proofs.plain.run.Goals.{then-branch, else-branch}
+
+pub returns-clause-legal : goal.returns-clause-legal
+returns-clause-legal c = λ paths main given. grown_legal paths main c.args.steps.now c.args.limit c.put_steps.new.log c.in_ok-put_steps.field-0 c.requires given c.in_ok-put_steps.ensures
+
+pub returns-clause-ends : goal.returns-clause-ends
+returns-clause-ends c = λ main.
+    elim c.if-branch.branch [
+      | then-branch w ↦ rw w.ending-is (rw w.if-branch.true at (ends_so main c.args.steps.now c.args.limit c.put_steps.new.log c.in_ok-put_steps.field-0 c.requires c.whole_has_no_next.ensures.over c.in_ok-put_steps.ensures))
+      | else-branch w ↦ rw w.ending-is (rw w.if-branch.false at (ends_so main c.args.steps.now c.args.limit c.put_steps.new.log c.in_ok-put_steps.field-0 c.requires c.whole_has_no_next.ensures.over c.in_ok-put_steps.ensures))
+    ]

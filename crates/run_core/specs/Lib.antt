@@ -1,0 +1,5 @@
+pub mod State
+pub mod Fits
+pub mod Legal
+pub mod Endings
+pub mod PlainRun

@@ -1,0 +1,65 @@
+-- A text that is put line by line, and what a sink has taken where a put fails.
+use Rattle.std.proofs.Common.{◌≡◌, ℕ, ◌+◌, ◌≤◌, ◌<◌, get_or, drop, List, [], ◌∷◌, ◌++◌, length, take, Option, Some, None, Result, Ok, Err, refl, sym, ap, subst, ◌∙◌, append_assoc, suc, add-one, drop-cons, arith, length-append}
+use Rattle.std.proofs.Math.Seq.{take-append-add, take-suc, take-length}
+use Rattle.std.proofs.lemmas.List.{take-append-le, take-append-drop, append-nil}
+use Rattle.std.proofs.lemmas.Grind.{flat_map-append}
+use Rattle.std.specs.List.{flat_map}
+use Rattle.std.specs.Prelude.{OnOk, OnErr}
+use Rattle.run_log.specs.declared.entry.Entry.{Entry}
+use Rattle.run_log.specs.Line.{line}
+use Rattle.nc_outside.specs.Outside.{Appends, AppendsFront}
+
+pub front_after : (old mid new : Option (List ℕ)) (a b rest : List ℕ) → Appends old mid a → AppendsFront mid new b → AppendsFront old new (a ++ (b ++ rest))
+front_after None mid new a b rest first second = (0, omega arith, tt)
+front_after (Some before) mid new a b rest first (n, le, then_on) =
+    let on = subst (λ (m : Option (List ℕ)). Appends m new (take n b)) first then_on in
+    (length a + n, omega (arith, length-append a (b ++ rest), length-append b rest), rw (take-append-add a (b ++ rest) n, take-append-le n b rest le, ← append_assoc) on)
+
+pub front_first : (old new : Option (List ℕ)) (b rest : List ℕ) → AppendsFront old new b → AppendsFront old new (b ++ rest)
+front_first old new b rest (n, le, on) = (n, omega (arith, length-append b rest), rw (take-append-le n b rest le) on)
+
+pub appends_after : (old mid new : Option (List ℕ)) (a b : List ℕ) → Appends old mid a → Appends mid new b → Appends old new (a ++ b)
+appends_after None mid new a b first second = tt
+appends_after (Some before) mid new a b first second = let on = subst (λ (m : Option (List ℕ)). Appends m new b) first second in rw (← append_assoc) on
+
+-- two texts put one after the other
+pub put_twice : (old mid new x y z : List ℕ) → mid ≡ old ++ x → new ≡ mid ++ y → x ++ y ≡ z → new ≡ old ++ z
+put_twice old mid new x y z first second both = second ∙ ap (λ (m : List ℕ). m ++ y) first ∙ append_assoc old x y ∙ ap (λ (m : List ℕ). old ++ m) both
+
+-- the first i lines were put, and then the next one
+pub one_more : (f : Entry → List ℕ) (start : List ℕ) (t : List Entry) (i : ℕ) (d : Entry) → i < length t → start ++ flat_map f (take (i + 1) t) ≡ (start ++ flat_map f (take i t)) ++ f (get_or t i d)
+one_more f start t i d lt =
+    let e = get_or t i d in
+    let next : take (i + 1) t ≡ take i t ++ (e ∷ []) = rw add-one (take-suc t i d lt) in
+    let lines : flat_map f (take (i + 1) t) ≡ flat_map f (take i t) ++ f e = rw (next, flat_map-append f (take i t) (e ∷ [])) (ap (λ (m : List ℕ). flat_map f (take i t) ++ m) (append-nil (f e))) in
+    rw lines (sym (append_assoc start (flat_map f (take i t)) (f e)))
+
+-- behind the first i lines stand the next one and the others
+pub lines_split : (f : Entry → List ℕ) (start : List ℕ) (t : List Entry) (i : ℕ) (d : Entry) (tail : List ℕ) → i < length t
+    → (start ++ flat_map f (take i t)) ++ (f (get_or t i d) ++ (flat_map f (drop (i + 1) t) ++ tail)) ≡ start ++ (flat_map f t ++ tail)
+lines_split f start t i d tail lt =
+    let e = get_or t i d in
+    let rest : drop i t ≡ e ∷ drop (i + 1) t = rw add-one (drop-cons t i d lt) in
+    let whole : flat_map f t ≡ flat_map f (take i t) ++ (f e ++ flat_map f (drop (i + 1) t)) =
+    ap (flat_map f) (sym (take-append-drop i t)) ∙ flat_map-append f (take i t) (drop i t) ∙ ap (λ (m : List Entry). flat_map f (take i t) ++ flat_map f m) rest in
+    rw whole (simp append_assoc)
+
+pub point_and_feed : (old mid new x y z f : List ℕ) → mid ≡ old ++ (32 ∷ x ++ (32 ∷ y ++ 32 ∷ z)) → new ≡ mid ++ 32 ∷ f → new ≡ old ++ (32 ∷ x ++ (32 ∷ y ++ (32 ∷ z ++ 32 ∷ f)))
+point_and_feed old mid new x y z f first second = rw (second, first) (simp append_assoc)
+
+-- the words of a feed, and the end of their line
+pub feed_line : (old new x y z f : List ℕ) → new ≡ old ++ (32 ∷ 70 ∷ (32 ∷ x ++ (32 ∷ y ++ (32 ∷ z ++ 32 ∷ f)))) → new ++ 10 ∷ [] ≡ old ++ 32 ∷ line ((70 ∷ []) ∷ x ∷ y ∷ z ∷ f ∷ [])
+feed_line old new x y z f made = rw made (simp append_assoc)
+
+-- what holds of an Ok, and what follows from it
+pub on_ok : {E : Type 0} {P Q : Type 0} (r : Result (Unit {0}) E) → OnOk r P → (P → Q) → OnOk r Q
+on_ok (Ok x) p f = f p
+on_ok (Err e) p f = tt
+
+pub on_err : {E : Type 0} {P Q : Type 0} (r : Result (Unit {0}) E) → OnErr r P → (P → Q) → OnErr r Q
+on_err (Ok x) p f = tt
+on_err (Err e) p f = f p
+
+-- all lines were put
+pub all_lines : (f : Entry → List ℕ) (start : List ℕ) (t : List Entry) (i : ℕ) (tail : List ℕ) → length t ≡ i → (start ++ flat_map f (take i t)) ++ tail ≡ start ++ (flat_map f t ++ tail)
+all_lines f start t i tail e = rw (← e, take-length t) (append_assoc start (flat_map f t) tail)

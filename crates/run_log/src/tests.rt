@@ -1,0 +1,50 @@
+use super::*;
+use nc_outside::{MemorySink, Sink};
+use path_blocks::Block;
+use std::test::Fail;
+
+const LOG: [Entry; 4] = [
+    Entry::Dispatch { n: 10, v: 0 },
+    Entry::Block {
+        n: 10,
+        k: 0,
+        b: Block::Tool {
+            tool: 44,
+            spindle: 20000,
+        },
+    },
+    Entry::Block {
+        n: 10,
+        k: 1,
+        b: Block::Feed {
+            x: 10000,
+            y: -20000,
+            z: 0,
+            f: 40,
+        },
+    },
+    Entry::End { n: 10 },
+];
+
+#[test]
+fn a_log_has_a_line_for_each_entry(rt: HostRuntime) -> Result<(), Fail> {
+    let mut sink = MemorySink::new(rt.alloc(), 1000)?;
+    write(&LOG, Ending::Done, &mut sink)?;
+    assert_eq!(rt;
+        sink.bytes(),
+        b"STEPNC-LOG 1\nD 10 0\nB 10 0 T 44 20000\nB 10 1 F 10000 -20000 0 40\nE 10\nend done 4\n".as_slice()
+    );
+    Ok(())
+}
+
+#[test]
+fn a_fault_leaves_a_front(rt: HostRuntime) -> Result<(), Fail> {
+    let mut sink = MemorySink::new(rt.alloc(), 1000)?;
+    sink.fail_at(1)?;
+    assert_eq!(rt;
+        write(&LOG, Ending::Limit, &mut sink),
+        Err(WriteErr::Failed)
+    );
+    assert_eq!(rt; sink.bytes(), b"STEPNC-LOG 1\n".as_slice());
+    Ok(())
+}

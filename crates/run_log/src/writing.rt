@@ -1,0 +1,42 @@
+//! Writing a log.
+
+ghost use Rattle.std.specs.Prelude.{◌≡◌, ◌≤◌, ◌<◌, ◌^◌, length, OnOk, OnErr};
+ghost use Rattle.nc_outside.specs.Outside.{Rose, Appends, AppendsFront};
+ghost use Rattle.run_log.specs.LogText.{text_of};
+
+use crate::entry::{Ending, Entry};
+use crate::lines;
+use nc_outside::{Failed, Sink, put_all};
+
+/// Why a log was not written whole.
+#[derive(Clone, Copy, Debug, PartialEq, Eq)]
+pub enum WriteErr {
+    /// The sink failed.
+    Failed,
+}
+
+/// Writes the text of a log: each line is put as one piece. It takes no memory.
+pub fn write<S: Sink>(log: &[Entry], ending: Ending, sink: &mut S) -> Result<(), WriteErr>
+    requires { length log.now < 2 ^ 32 }
+    ensures counted { S.faults sink.old ≤ S.faults sink.new }
+    ensures ok { OnOk result (Appends (S.taken sink.old) (S.taken sink.new) (text_of log.now ending)) }
+    ensures failed { OnErr result (Rose (S.faults sink.old) (S.faults sink.new)) }
+    ensures failed_takes_front { OnErr result (AppendsFront (S.taken sink.old) (S.taken sink.new) (text_of log.now ending)) }
+{
+    put_lines(log, ending, sink).map_err(|_| WriteErr::Failed)
+}
+
+/// Puts the first line, a line for each entry, and the last line.
+fn put_lines<S: Sink>(log: &[Entry], ending: Ending, sink: &mut S) -> Result<(), Failed>
+    requires { length log.now < 2 ^ 32 }
+    ensures counted { S.faults sink.old ≤ S.faults sink.new }
+    ensures ok { OnOk result (Appends (S.taken sink.old) (S.taken sink.new) (text_of log.now ending)) }
+    ensures failed { OnErr result (Rose (S.faults sink.old) (S.faults sink.new)) }
+    ensures failed_takes_front { OnErr result (AppendsFront (S.taken sink.old) (S.taken sink.new) (text_of log.now ending)) }
+{
+    put_all(sink, b"STEPNC-LOG 1\n")?;
+    for entry in log {
+        put_all(sink, lines::of_entry(entry).as_slice())?;
+    }
+    put_all(sink, lines::of_ending(ending, log.len() as u32).as_slice())
+}

@@ -1,0 +1,5 @@
+pub mod Exec
+pub mod Of
+pub mod Whole
+pub mod Part
+pub mod Next
