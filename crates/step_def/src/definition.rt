@@ -132,7 +132,8 @@ fn refers_to_drilling<E: Entities>(from: &E, step: &Entity) -> bool
 /// milling come as further cases. The definition follows this profile's table of look-ups after ISO 14649-10 and ISO 14649-11.
 ///
 /// # Errors
-/// The first fault, in the order of `DefFault`, and of one kind the first in the order in which the instances are looked up.
+/// The first fault, in the order of `DefFault`, and of one kind the first in the order in which the instances are looked up. A
+/// drilled hole can have the kinds `Missing`, `HasToolpath`, `BadDirection`, `NotPositive` and `OutOfRange`.
 pub fn resolve<E: Entities, L: Ledger>(
     from: &E,
     n: Number,
