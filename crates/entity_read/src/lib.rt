@@ -8,3 +8,6 @@ mod reading;
 
 pub use error::TypeErr;
 pub use reading::typed;
+
+#[cfg(test)]
+mod tests;

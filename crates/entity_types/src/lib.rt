@@ -14,3 +14,6 @@ pub use entity::{Entity, EntityList};
 pub use field::{Field, FieldList};
 pub use keyword::class_of;
 pub use table::{Kind, Target, UsedPosition, used};
+
+#[cfg(test)]
+mod tests;

@@ -1,9 +1,10 @@
 -- Faults of a list, part by part.
-use Rattle.std.proofs.Common.{◌≡◌, ℕ, zero, suc, ◌+◌, ◌<◌, Bool, true, false, cond, nat_lt, List, [], ◌∷◌, ◌++◌, length, get_or, drop, refl, ap, sym, ◌∙◌, arith, add-one}
+use Rattle.std.proofs.Common.{◌≡◌, ℕ, zero, suc, ◌+◌, ◌<◌, Bool, true, false, cond, nat_lt, List, [], ◌∷◌, ◌++◌, length, get_or, drop, take, refl, ap, sym, ◌∙◌, arith, add-one}
 use Rattle.std.specs.Prelude.{Option, Some, None, option_map, is_none, slice_get, flat_map}
 use Rattle.std.specs.Option.{option_or}
 use Rattle.std.proofs.lemmas.Bool.Decides.{nat_tests}
-use Rattle.std.proofs.lemmas.List.{at_drop_more}
+use Rattle.std.proofs.lemmas.List.{at_drop_more, take_more}
+use Rattle.std.proofs.lemmas.Option.{get_or_from_slice_get, slice_get_within}
 use Rattle.entity_types.specs.declared.entity.Entity.{Entity}
 use Rattle.entity_types.specs.declared.field.Field.{Field}
 use Rattle.entity_types.specs.Entity.{references_of}
@@ -64,3 +65,9 @@ least_more fault es i e x least one next p q r at h =
     let rest = least_fault fault (drop (i + 1) es) in
     ap (λ o. lesser o rest) p ∙ lesser_lesser least one rest
     ∙ ap (λ o. lesser least (lesser o rest)) (q ∙ ap (option_map (λ n. (e.number, n))) r) ∙ ap (lesser least) (sym (least_step fault es i e at)) ∙ h
+
+-- one more entity copied
+pub take_next : (es : List Entity) (i : ℕ) (x y : Entity) (old next : List Entity) → next ≡ old ++ y ∷ [] → y ≡ x → old ≡ take i es → slice_get es i ≡ Some x → next ≡ take (i + 1) es
+take_next es i x y old next n c o at =
+    n ∙ ap (λ z. old ++ z ∷ []) c ∙ ap (λ l. l ++ x ∷ []) o
+    ∙ sym (take_more es i x (slice_get_within es i x at) ∙ ap (λ z. take i es ++ z ∷ []) (get_or_from_slice_get es i x x at))

@@ -1,6 +1,6 @@
 -- Numbers put into a set in turn.
 use Rattle.std.proofs.Common.{◌≡◌, ℕ, zero, suc, ◌+◌, ◌<◌, ◌≤◌, ◌⊎◌, inl, inr, Bool, true, false, cond, nat_eq, List, [], ◌∷◌, ◌++◌, length, get_or, drop, refl, ap, sym, subst, ◌∙◌, arith, length-append}
-use Rattle.std.specs.Prelude.{Contains, slice_get, flat_map, Some}
+use Rattle.std.specs.Prelude.{Contains, slice_get, flat_map}
 use Rattle.std.specs.List.{list_any}
 use Rattle.std.proofs.lemmas.Bool.Decides.{nat_tests}
 use Rattle.std.proofs.lemmas.List.Elements.{Contains-append_left, Contains-append_right, Contains-append_cases, Contains-push, Contains-push_cases}
@@ -59,18 +59,21 @@ pub Contains-new : (ks rs : List ℕ) (m : ℕ) → Contains rs m → Contains (
 Contains-new ks [] m h = absurd (none_there m h)
 Contains-new ks (r ∷ rs) m h =
     elim (Contains-append_cases (r ∷ []) rs m h) [
-      inl one ↦ subst (Contains (insert_all ks (r ∷ rs))) (only_there r m one) (Contains-old (insert_key nat_eq ks r) rs r (Contains-insert_key nat_eq same ks r))
-    | inr more ↦ Contains-new (insert_key nat_eq ks r) rs m more ]
+      | inl one ↦ subst (Contains (insert_all ks (r ∷ rs))) (only_there r m one) (Contains-old (insert_key nat_eq ks r) rs r (Contains-insert_key nat_eq same ks r))
+      | inr more ↦ Contains-new (insert_key nat_eq ks r) rs m more
+    ]
 
 -- nothing else is there
 pub Contains-back : (ks rs : List ℕ) (m : ℕ) → Contains (insert_all ks rs) m → Contains ks m ⊎ Contains rs m
 Contains-back ks [] m h = inl h
 Contains-back ks (r ∷ rs) m h =
     elim (Contains-back (insert_key nat_eq ks r) rs m h) [
-      inl there ↦ elim (back_by ks _ r m (inserted ks r) there) [
-        inl old ↦ inl old
-      | inr e ↦ inr (subst (Contains (r ∷ rs)) e (Contains-append_left (r ∷ []) rs r (Contains-push [] r))) ]
-    | inr more ↦ inr (Contains-append_right (r ∷ []) rs m more) ]
+      | inl there ↦ elim (back_by ks _ r m (inserted ks r) there) [
+        | inl old ↦ inl old
+        | inr e ↦ inr (subst (Contains (r ∷ rs)) e (Contains-append_left (r ∷ []) rs r (Contains-push [] r)))
+      ]
+      | inr more ↦ inr (Contains-append_right (r ∷ []) rs m more)
+    ]
 
 -- each keeps its place
 pub slice_get-insert_all : (ks rs : List ℕ) (k : ℕ) → k < length ks → slice_get (insert_all ks rs) k ≡ slice_get ks k

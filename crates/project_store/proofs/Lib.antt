@@ -5,3 +5,4 @@ pub mod Inserting
 pub mod Reaching
 pub mod Rising
 pub mod PutLemmas
+pub mod Sound

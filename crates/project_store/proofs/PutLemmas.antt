@@ -46,7 +46,7 @@ pub last_of-hit : (items : List Entity) (e : ℕ) (x : Entity) (n : ℕ) → 0 <
 last_of-hit items e x n l h at same =
     last_of-take items e x n l h at ∙ ap (λ b. cond b (Some x) (last_of (take (e - 1) items) n)) (eq-eqb n x.number same)
 
-differ : (n m : ℕ) → (n ≡ m → ⊥) → n == m ≡ false
+pub differ : (n m : ℕ) → (n ≡ m → ⊥) → n == m ≡ false
 differ n m h = grind (arith, nat_tests)
 
 pub last_of-miss : (items : List Entity) (e : ℕ) (x : Entity) (n : ℕ) → 0 < e → e ≤ length items → x ≡ get_or items (e - 1) x → (n ≡ x.number → ⊥)

@@ -1,5 +1,5 @@
 -- The set of what is reached, grown from its members in turn.
-use Rattle.std.proofs.Common.{◌≡◌, ℕ, zero, suc, ◌+◌, ◌<◌, ◌≤◌, ◌⊎◌, inl, inr, List, [], ◌∷◌, length, refl, ap, sym, subst, ◌∙◌, arith, ◌↔◌}
+use Rattle.std.proofs.Common.{◌≡◌, ℕ, ◌+◌, ◌<◌, ◌≤◌, inl, inr, List, [], ◌∷◌, length, refl, ap, sym, subst, ◌∙◌, arith, ◌↔◌}
 use Rattle.std.specs.Prelude.{Contains, slice_get, Option, Some, None}
 use Rattle.std.specs.Option.{option_map_or}
 use Rattle.entity_types.specs.declared.entity.Entity.{Entity}
@@ -33,15 +33,16 @@ Grows-turn entities n m ks i g at l =
     let there : Contains ks m = (i, l, get_or_from_slice_get ks i m m at) in
     record {
       sound = λ q h. elim (Contains-back ks us q h) [
-          inl old ↦ g.sound q old
-        | inr new ↦ uses_by entities n m q _ refl (g.sound m there) new ];
+        | inl old ↦ g.sound q old
+        | inr new ↦ uses_by entities n m q _ refl (g.sound m there) new
+      ];
       root = Contains-old ks us n g.root;
       done = λ k q r h. below_more (λ j. (q r : ℕ) → slice_get (insert_all ks us) j ≡ Some q → Contains (uses_at entities q) r → Contains (insert_all ks us) r) i
           (λ j lt q r e c. Contains-old ks us r (g.done j q r lt (sym (slice_get-insert_all ks us j (omega (arith, g.bound))) ∙ e) c))
           (λ q r e c.
-            let stays = slice_get-insert_all ks us i l in
-            let one : m ≡ q = cc in
-            Contains-new ks us r (subst (λ z. Contains (uses_at entities z) r) (sym one) c))
+          let stays = slice_get-insert_all ks us i l in
+          let one : m ≡ q = cc in
+          Contains-new ks us r (subst (λ z. Contains (uses_at entities z) r) (sym one) c))
           k h q r;
       bound = omega (arith, length-insert_all ks us);
     }
@@ -60,8 +61,8 @@ Grows-end entities n ks i g l m = (g.sound m, complete entities n ks i g l m)
 -- the set begins with its root
 pub Grows-start : (entities : ℕ → Option Entity) (n : ℕ) → Grows entities n (n ∷ []) 0
 Grows-start entities n = record {
-    sound = λ m h. subst (Reaches entities n) (only_there n m h) root;
-    root = Contains-push [] n;
-    done = λ k m r h. absurd (omega arith);
-    bound = omega arith;
-  }
+  sound = λ m h. subst (Reaches entities n) (only_there n m h) root;
+  root = Contains-push [] n;
+  done = λ k m r h. absurd (omega arith);
+  bound = omega arith;
+}

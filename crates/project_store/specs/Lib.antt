@@ -3,3 +3,4 @@ pub mod Build
 pub mod Reach
 pub mod Inserts
 pub mod Put
+pub mod Resolved

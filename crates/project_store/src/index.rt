@@ -4,6 +4,7 @@ ghost use Rattle.std.specs.Prelude.{◌≡◌, ◌<◌, ℕ, [], ◌∷◌, ◌+
 ghost use Rattle.std.specs.List.{IsDistinct};
 ghost use Rattle.entity_types.specs.declared.entity.Entity.{Entity};
 ghost use Rattle.indexmap.specs.IndexMap.{get};
+ghost use Rattle.project_store.specs.Build.{count_fault, projects_of};
 ghost use Rattle.project_store.specs.Entities.{numbers_of, entity_at};
 
 use entity_types::Entity;
@@ -46,7 +47,8 @@ impl Index {
 
     /// How many entities there are.
     pub fn len(&self) -> usize
-        ensures { result ≡ length self.now }
+        ensures len { result ≡ length self.now }
+        ensures distinct { IsDistinct nat_eq (numbers_of self.now) }
     {
         self.map.len()
     }
@@ -57,6 +59,31 @@ impl Index {
         ensures { slice_get self.now i ≡ Some result.now }
     {
         self.map.get_index(i).unwrap().1
+    }
+
+    /// Equal entities in the same order.
+    pub fn copy(&self, alloc: Global) -> Result<Index, NoMemory>
+        ensures { IfOk result (λ copy. copy ≡ self.now) }
+    {
+        let mut copies = Vec::with_capacity(alloc, self.len())?;
+        for i in 0..self.len() {
+            copies.push(self.at(i).copy(alloc)?)?;
+        }
+        Index::new(alloc, copies)
+    }
+
+    /// The only project.
+    pub fn project(&self) -> &Entity
+        requires { count_fault (projects_of self.now) ≡ None }
+        ensures { projects_of self.now ≡ result.now ∷ [] }
+    {
+        for i in 0..self.len() {
+            let entity = self.at(i);
+            if entity.class.code() == 1 {
+                return entity;
+            }
+        }
+        unreachable!()
     }
 
     /// The entity of this number.

@@ -2,15 +2,18 @@
 #![tactic(auto)]
 
 mod build;
-mod reach;
 mod entities;
 mod error;
 mod index;
 mod overlay;
+mod reach;
 mod store;
 
-pub use reach::closure;
 pub use entities::Entities;
 pub use error::StoreErr;
 pub use overlay::Overlay;
+pub use reach::closure;
 pub use store::Store;
+
+#[cfg(test)]
+mod tests;

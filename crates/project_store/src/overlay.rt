@@ -12,8 +12,8 @@ use nc_base::Number;
 /// A store with items put in their order, so that of two items with one number the later stands.
 #[derive(Clone, Copy)]
 pub struct Overlay<'a> {
-    store: &'a Store,
-    items: &'a EntityList,
+    pub store: &'a Store,
+    pub items: &'a EntityList,
 }
 
 impl<'a> Overlay<'a> {

@@ -43,7 +43,11 @@ fn insert_used<E: Entities>(
     }
 }
 
-fn reached<E: Entities>(alloc: Global, entities: &E, n: Number) -> Result<IndexSet<Number>, NoMemory>
+fn reached<E: Entities>(
+    alloc: Global,
+    entities: &E,
+    n: Number,
+) -> Result<IndexSet<Number>, NoMemory>
     ensures members { IfOk result (λ set. (m : ℕ) → Contains set.keys m ↔ Reaches (E.entities entities.now) n m) }
     ensures distinct { IfOk result (λ set. IsDistinct nat_eq set.keys) }
 {

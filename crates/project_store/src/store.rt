@@ -1,16 +1,19 @@
 //! The store of a project.
 
-ghost use Rattle.std.specs.Prelude.{◌≡◌, nat_eq};
+ghost use Rattle.std.specs.Prelude.{◌≡◌, ◌<◌, [], ◌∷◌, nat_eq, length, slice_get, Some, IfOk};
 ghost use Rattle.std.specs.List.{IsDistinct};
 ghost use Rattle.project_store.specs.Entities.{numbers_of, entity_at};
-ghost use Rattle.project_store.specs.Build.{Builds};
+ghost use Rattle.project_store.specs.Build.{Builds, projects_of};
+ghost use Rattle.project_store.specs.Resolved.{IsResolved};
+ghost use Rattle.project_store.specs.Reach.{IsClosure};
 
 use crate::build::{count_fault, least_missing, least_wrong};
 use crate::entities::Entities;
 use crate::error::StoreErr;
 use crate::index::Index;
+use crate::reach::closure;
 use entity_types::Entity;
-use nc_base::Number;
+use nc_base::{NoMemory, Number, NumberList};
 use std::alloc::Global;
 use std::marker::Model;
 
@@ -53,6 +56,51 @@ impl Store {
             return Err(StoreErr::WrongKind(number, position));
         }
         Ok(Store { index })
+    }
+
+    /// The only `PROJECT`.
+    pub fn project(&self) -> &Entity
+        ensures { projects_of self.now ≡ result.now ∷ [] }
+    {
+        self.index.project()
+    }
+
+    /// Each used reference of an entity in the store names an entity that is in it and of the kind that the table of classes demands.
+    pub fn is_resolved(&self)
+        ensures { IsResolved self.now }
+    {
+        let _ = &self.index;
+    }
+
+    /// How many entities there are.
+    pub fn len(&self) -> usize
+        ensures { result ≡ length self.now }
+    {
+        self.index.len()
+    }
+
+    /// The entity at index `i` in file order, counted from 0.
+    pub fn at(&self, i: usize) -> &Entity
+        requires { i < length self.now }
+        ensures { slice_get self.now i ≡ Some result.now }
+    {
+        self.index.at(i)
+    }
+
+    /// The least set that holds `n` and what its members use, in order of number.
+    pub fn closure(&self, alloc: Global, n: Number) -> Result<NumberList, NoMemory>
+        ensures { IfOk result (IsClosure (entity_at self.now) n) }
+    {
+        closure(alloc, self, n)
+    }
+
+    /// An equal store.
+    pub fn copy(&self, alloc: Global) -> Result<Store, NoMemory>
+        ensures { IfOk result (λ copy. copy ≡ self.now) }
+    {
+        Ok(Store {
+            index: self.index.copy(alloc)?,
+        })
     }
 }
 

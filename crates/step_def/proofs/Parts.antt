@@ -1,5 +1,5 @@
 -- The heights of a definition fit the machine's numbers.
-use Rattle.std.proofs.Common.{◌≡◌, Bool, true, false, ◌&&◌, ℕ, ℤ, pos, ◌-ℤ◌, neg_ℤ, ◌∷◌, [], refl, arith, to_z, of_z, w64}
+use Rattle.std.proofs.Common.{◌≡◌, Bool, true, false, ◌&&◌, ℤ, pos, ◌-ℤ◌, neg_ℤ, refl, arith, to_z, of_z, w64}
 use Rattle.std.proofs.lemmas.Int.{ints, to_z-of_z}
 use Rattle.std.specs.Prelude.{FitsSigned}
 use Rattle.path_blocks.specs.Range.{is_within}

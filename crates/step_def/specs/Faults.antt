@@ -116,7 +116,7 @@ ranges walk feature operation =
 
 -- ---- all kinds, in their order
 
--- the first fault of what the walk found
+-- the first fault of what the walk found; a drilled hole has no fault of the other kinds
 unfoldable pub walk_check : Walk → Result ⊤ DefFault
 walk_check walk = do
   no_toolpath ← unless (not walk.has_toolpath) (HasToolpath walk.operation)

@@ -62,7 +62,7 @@ numbers_by walk feature_part operation_part = record {
 abbrev pub numbers_from : Walk → Numbers
 numbers_from walk = numbers_by walk walk.feature_part walk.operation_part
 
--- the numbers of the definition of workingstep n, or its first fault
+-- the numbers of the definition of workingstep n, or its first fault; an n that is not there has no feature at its position 3
 unfoldable pub numbers_at : (ℕ → Option Entity) → ℕ → Result Numbers DefFault
 numbers_at from n = do
   step ← found n 3 (from n)

@@ -1,17 +1,20 @@
 //! The definition of a workingstep.
 
 ghost use Rattle.std.specs.Prelude.{◌≡◌, ◌+◌, pos, ◌-ℤ◌, IsTrue};
+ghost use Rattle.entity_types.specs.declared.class.Class.TheVariants.{RoundHole};
 ghost use Rattle.step_def.specs.Steps.{Gives};
+ghost use Rattle.step_def.specs.Walk.{is_of, is_drilling};
 ghost use Rattle.step_def.specs.Faults.{depth_of};
 ghost use Rattle.step_def.specs.Numbers.{or_else, retract_height, shape_of, numbers_of, numbers_from, numbers_at};
 ghost use Rattle.step_def.specs.Ranges.{KeepsRanges};
-ghost use Rattle.step_def.specs.Condition.{is_drilled_hole};
+ghost use Rattle.step_def.specs.Condition.{is_drilled_hole, refers_to};
 ghost use Rattle.step_def.specs.DefOf.{def_of};
 
 use crate::check::walk_check;
 use crate::fault::DefFault;
 use crate::found::{FeaturePart, Figure, OperationPart, Walk};
-use crate::walk::walk_of;
+use crate::walk::{is_drilling, is_of, referred, walk_of};
+use entity_types::{Class, Entity};
 use nc_base::{Number, Steps};
 use path_blocks::{Def, Shape};
 use project_store::Entities;
@@ -91,13 +94,46 @@ fn checked<E: Entities>(from: &E, n: Number) -> Result<Def, DefFault>
     Ok(def_from(&walk))
 }
 
+/// Whether `n` is a workingstep that drills a round hole, as `resolve` demands at this stage.
+pub fn is_drilled_hole<E: Entities>(from: &E, n: Number) -> bool
+    ensures { result ≡ is_drilled_hole (E.entities from.now) n }
+{
+    match from.get(n) {
+        Some(step) => {
+            is_of(Class::MachiningWorkingstep, step)
+                && refers_to_hole(from, step)
+                && refers_to_drilling(from, step)
+        }
+        None => false,
+    }
+}
+
+fn refers_to_hole<E: Entities>(from: &E, step: &Entity) -> bool
+    ensures { result ≡ refers_to (E.entities from.now) (is_of RoundHole) step.now 3 }
+{
+    match referred(from, step, 3) {
+        Some((_, feature)) => is_of(Class::RoundHole, feature),
+        None => false,
+    }
+}
+
+fn refers_to_drilling<E: Entities>(from: &E, step: &Entity) -> bool
+    ensures { result ≡ refers_to (E.entities from.now) is_drilling step.now 4 }
+{
+    match referred(from, step, 4) {
+        Some((_, operation)) => is_drilling(operation),
+        None => false,
+    }
+}
+
 /// The definition of workingstep `n`: the numbers that its path depends on. It counts one step and takes no memory.
 ///
 /// At this stage `n` is a workingstep that drills a round hole (drilling, center drilling, reaming or boring); faces, pockets and
 /// milling come as further cases. The definition follows this profile's table of look-ups after ISO 14649-10 and ISO 14649-11.
 ///
 /// # Errors
-/// The first fault, in the order of `DefFault`, and of one kind the first in the order in which the instances are looked up.
+/// The first fault, in the order of `DefFault`, and of one kind the first in the order in which the instances are looked up. A
+/// drilled hole can have the kinds `Missing`, `HasToolpath`, `BadDirection`, `NotPositive` and `OutOfRange`.
 pub fn resolve<E: Entities, L: Ledger>(
     from: &E,
     n: Number,

@@ -8,5 +8,8 @@ mod fault;
 mod found;
 mod walk;
 
-pub use definition::resolve;
+pub use definition::{is_drilled_hole, resolve};
 pub use fault::DefFault;
+
+#[cfg(test)]
+mod tests;

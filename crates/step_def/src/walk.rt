@@ -11,7 +11,7 @@ use entity_types::{Class, Entity, Field};
 use nc_base::Number;
 use project_store::Entities;
 
-fn referred<'a, E: Entities>(
+pub(crate) fn referred<'a, E: Entities>(
     from: &'a E,
     entity: &Entity,
     position: u8,
@@ -24,7 +24,7 @@ fn referred<'a, E: Entities>(
     }
 }
 
-fn is_of(class: Class, entity: &Entity) -> bool
+pub(crate) fn is_of(class: Class, entity: &Entity) -> bool
     ensures { result ≡ is_of class entity.now }
 {
     entity.class.code() == class.code()
@@ -257,7 +257,7 @@ fn cut_of<E: Entities>(from: &E, n: Number, operation: &Entity) -> Result<Cut, D
     })
 }
 
-fn is_drilling(operation: &Entity) -> bool
+pub(crate) fn is_drilling(operation: &Entity) -> bool
     ensures { result ≡ is_drilling operation.now }
 {
     let code = operation.class.code();

@@ -16,7 +16,7 @@ loop-next-preserved g c =
     let i = c.loop-next.next in
     subst (λ ks. Grows entities c.args.n ks (i + 1)) (sym c.in_ok-insert_used.ensures)
     (Grows-turn entities c.args.n c.unwrap-number.result.now c.loop-next.set.keys i c.loop-next.invariant
-        (sym c.get_index.ensures.key ∙ ap option_copied c.unwrap-number.ensures) (omega (arith, c.len.ensures.len, c.loop-next-test.true)))
+    (sym c.get_index.ensures.key ∙ ap option_copied c.unwrap-number.ensures) (omega (arith, c.len.ensures.len, c.loop-next-test.true)))
 
 pub returns-clause-members : goal.returns-clause-members
 returns-clause-members g c =
