@@ -2,7 +2,7 @@
 use Rattle.std.proofs.Common.{◌≡◌, ℕ, suc, ◌+◌, ◌<◌, ◌≤◌, Bool, true, false, cond, eqb, leb, ◌||◌, ◌&&◌, List, [], ◌∷◌, ◌++◌, length, take, drop, get_or, Option, Some, None, Result, Ok, Err, refl, sym, ap, subst, ◌∙◌, ◌⊎◌, inl, inr, arith}
 use Rattle.std.specs.List.{prefix_len}
 use Rattle.std.specs.Str.Parse.{digits_value}
-use Rattle.std.proofs.lemmas.Bool.{eqb-true, eqb-false, leb-true, le-leb, and_parts, cases_lt}
+use Rattle.std.proofs.lemmas.Bool.{eqb-true, eqb-false, leb-true, and_parts, cases_lt}
 use Rattle.std.proofs.lemmas.List.{take_more, get_or_past}
 use Rattle.p21_lex.specs.declared.error.LexErr.{LexErr}
 use Rattle.p21_lex.specs.declared.error.LexErr.TheVariants.{BadByte, BadName, OpenString, OpenComment}
@@ -22,7 +22,7 @@ use Rattle.p21_lex.proofs.Texts.{text_closes, binary_closes, comment_closes}
 use Rattle.p21_lex.proofs.Numbers.{digits_found, answered, refused, answer_is, refused_not, TokenFound, GapFound, Found, number_found}
 
 -- which of two answers a test chose
-chosen : (t : Bool) (x y r : Result Piece LexErr) (P : Type 0) → cond t x y ≡ r → (t ≡ true → x ≡ r → P) → (t ≡ false → y ≡ r → P) → P
+pub chosen : (t : Bool) (x y r : Result Piece LexErr) (P : Type 0) → cond t x y ≡ r → (t ≡ true → x ≡ r → P) → (t ≡ false → y ≡ r → P) → P
 chosen true x y r P e yes_is no_is = yes_is refl e
 chosen false x y r P e yes_is no_is = no_is refl e
 
@@ -54,9 +54,6 @@ user_word_found at (b ∷ bs) piece e =
 in_range : (v : ℕ) → (leb 1 v && leb v 2147483647) ≡ true → (1 ≤ v) × (v ≤ 2147483647)
 in_range v h = let p = and_parts (leb 1 v) (leb v 2147483647) h in (leb-true 1 v p.0, leb-true v 2147483647 p.1)
 
-in_range_again : (v : ℕ) → 1 ≤ v → v ≤ 2147483647 → (leb 1 v && leb v 2147483647) ≡ true
-in_range_again v low high = let l : leb 1 v ≡ true = le-leb 1 v low in let h : leb v 2147483647 ≡ true = le-leb v 2147483647 high in rw (l, h) refl
-
 name_found : (at : ℕ) (bs : List ℕ) (piece : Piece) → name at bs ≡ answered piece → Found (35 ∷ bs) piece
 unfolding name
 name_found at bs piece e =
@@ -72,7 +69,7 @@ name_found at bs piece e =
 
 -- ---- enumerations
 
-point_within : (bs : List ℕ) (n : ℕ) → eqb (get_or bs n 0) 46 ≡ true → n < length bs
+pub point_within : (bs : List ℕ) (n : ℕ) → eqb (get_or bs n 0) 46 ≡ true → n < length bs
 point_within bs n h = by_place (cases_lt n (length bs))
   where
     past : length bs ≤ n → ⊥
@@ -128,7 +125,7 @@ commented_found at bs piece (Ok n) has e =
     let c = comment_closes bs n has in
     let len : 2 + n ≡ suc (suc n) = omega arith in
     let here : GapFound (47 ∷ 42 ∷ bs) (2 + n) = rw len (record {
-      gap = inr (c.inside, ap (λ (ys : List ℕ). 47 ∷ 42 ∷ ys) c.parts, c.passes.0, c.passes.1);
+      gap = inr (c.inside, ap (λ (ys : List ℕ). 47 ∷ 42 ∷ ys) c.parts, c.passes);
       within = omega (arith, c.within);
       filled = omega arith;
     }) in

@@ -1,8 +1,8 @@
 -- Numbers: what is found has the form of an integer or a real, and what has the form is found again.
-use Rattle.std.proofs.Common.{◌≡◌, ℕ, zero, suc, ◌+◌, ◌<◌, ◌≤◌, Bool, true, false, cond, eqb, ltb, ◌||◌, ◌&&◌, List, [], ◌∷◌, ◌++◌, length, take, drop, Result, Ok, Err, refl, sym, ap, subst, ◌∙◌, inl, inr, append_assoc, arith}
+use Rattle.std.proofs.Common.{◌≡◌, ℕ, zero, suc, ◌+◌, ◌<◌, ◌≤◌, Bool, true, false, cond, eqb, ltb, ◌||◌, ◌&&◌, List, [], ◌∷◌, ◌++◌, length, take, drop, Result, Ok, Err, refl, sym, ap, subst, ◌∙◌, ◌⊎◌, inl, inr, append_assoc, arith}
 use Rattle.std.specs.Prelude.{count_by}
 use Rattle.std.specs.List.{list_any}
-use Rattle.std.proofs.lemmas.Bool.{eqb-true, eqb-false, ltb-false, eq-eqb, ne_eqb, le-ltb}
+use Rattle.std.proofs.lemmas.Bool.{eqb-true, eqb-false, ltb-false, ltb-true, lt-ltb, eq-eqb, ne_eqb, le-ltb}
 use Rattle.std.proofs.lemmas.Bool.Decides.{nat_tests}
 use Rattle.std.proofs.lemmas.List.{drop-drop, drop_at, take_at, length-append, length-drop}
 use Rattle.p21_lex.specs.declared.error.LexErr.{LexErr}
@@ -39,10 +39,10 @@ digits_found bytes some =
     let len : length (take (digits_len bytes) bytes) ≡ digits_len bytes = take_within (digits_len bytes) bytes (run_within is_digit bytes) in
     IsDigits-from (take (digits_len bytes) bytes) (λ e. some (sym len ∙ e)) (run_is is_digit bytes)
 
-digits_none : (bytes : List ℕ) → digits_len bytes ≡ 0 → NotFirst is_digit bytes
+pub digits_none : (bytes : List ℕ) → digits_len bytes ≡ 0 → NotFirst is_digit bytes
 digits_none bytes none = let ends : NotFirst is_digit (drop (digits_len bytes) bytes) = run_ends is_digit bytes in subst (λ (n : ℕ). NotFirst is_digit (drop n bytes)) none ends
 
-sign_is_no_digit : (b : ℕ) → is_sign b ≡ true → is_digit b ≡ false
+pub sign_is_no_digit : (b : ℕ) → is_sign b ≡ true → is_digit b ≡ false
 sign_is_no_digit b h = grind (arith, nat_tests)
 
 digit_is_no_sign : (b : ℕ) → is_digit b ≡ true → is_sign b ≡ false
@@ -104,7 +104,7 @@ int_again (b ∷ bs) rest (inr h) stop =
 none_cond : (n : ℕ) → cond (eqb n 0) 0 (1 + n) ≡ 0 → n ≡ 0
 none_cond n h = grind (arith, nat_tests)
 
-begins_none : (b : ℕ) (bs : List ℕ) → is_digit b ≡ false → (is_sign b ≡ true → NotFirst is_digit bs) → begins_int (b ∷ bs) ≡ false
+pub begins_none : (b : ℕ) (bs : List ℕ) → is_digit b ≡ false → (is_sign b ≡ true → NotFirst is_digit bs) → begins_int (b ∷ bs) ≡ false
 begins_none b [] plain behind = plain
 begins_none b (c ∷ cs) plain behind = by_sign (is_sign b) refl
   where
@@ -118,11 +118,11 @@ none_step b bs true sign none =
     begins_none b bs (sign_is_no_digit b sign) (λ _. digits_none bs no_digits)
 none_step b bs false plain none = begins_none b bs (digits_none (b ∷ bs) (sym (int_plain b bs plain) ∙ none)) (λ sign. absurd cc)
 
-int_none : (bytes : List ℕ) → int_len bytes ≡ 0 → begins_int bytes ≡ false
+pub int_none : (bytes : List ℕ) → int_len bytes ≡ 0 → begins_int bytes ≡ false
 int_none [] none = refl
 int_none (b ∷ bs) none = none_step b bs (is_sign b) refl none
 
-begins_none_back : (b : ℕ) (bs : List ℕ) → begins_int (b ∷ bs) ≡ false → (is_digit b ≡ false) × (is_sign b ≡ true → NotFirst is_digit bs)
+pub begins_none_back : (b : ℕ) (bs : List ℕ) → begins_int (b ∷ bs) ≡ false → (is_digit b ≡ false) × (is_sign b ≡ true → NotFirst is_digit bs)
 begins_none_back b [] h = (h, λ _. tt)
 begins_none_back b (c ∷ cs) h = (parts (is_digit b) (is_sign b) (is_digit c) h)
   where
@@ -137,7 +137,7 @@ none_back_step b bs true sign h =
     int_signed b bs sign ∙ ap (λ (n : ℕ). cond (eqb n 0) 0 (1 + n)) none
 none_back_step b bs false plain h = int_plain b bs plain ∙ no_run is_digit (b ∷ bs) (begins_none_back b bs h).0
 
-int_none_again : (bytes : List ℕ) → begins_int bytes ≡ false → int_len bytes ≡ 0
+pub int_none_again : (bytes : List ℕ) → begins_int bytes ≡ false → int_len bytes ≡ 0
 int_none_again [] h = int_nothing
 int_none_again (b ∷ bs) h = none_back_step b bs (is_sign b) refl h
 
@@ -354,14 +354,17 @@ neither : (rest : List ℕ) → NotFirst is_digit rest → NotFirst (λ b. eqb b
 neither [] h k = tt
 neither (b ∷ bs) h k = rw (h, k) refl
 
-number_kind : (bytes : List ℕ) (w f : ℕ) (z : Bool) → eqb f 0 ≡ z → IntFound bytes w → count_by is_digit (take (w + f) bytes) ≤ 38
-    → f ≡ fraction_len (drop w bytes) → TokenFound (cond z kinds.Int kinds.Real) bytes (w + f)
-number_kind bytes w f true ez whole short is =
+-- so many bytes have the form of a number, an integer or a real, and it stops there
+abbrev pub NumberForm : Bool → List ℕ → ℕ → Type 0
+NumberForm true bytes n = IsInt (take n bytes) × Stops kinds.Int (take n bytes) (drop n bytes) × (n ≤ length bytes)
+NumberForm false bytes n = IsReal (take n bytes) × Stops kinds.Real (take n bytes) (drop n bytes) × (n ≤ length bytes)
+
+pub number_form : (bytes : List ℕ) (w f : ℕ) (z : Bool) → eqb f 0 ≡ z → IntFound bytes w → f ≡ fraction_len (drop w bytes) → NumberForm z bytes (w + f)
+number_form bytes w f true ez whole is =
     let none : f ≡ 0 = eqb-true f 0 ez in
     let len : w + f ≡ w = omega arith in
-    let few : IsShort (take w bytes) = subst (λ (n : ℕ). IsShort (take n bytes)) len short in
-    rw len (record { spelled = (whole.is, few); stopped = neither (drop w bytes) whole.ends (fraction_none (drop w bytes) (sym is ∙ none)); within = whole.within })
-number_kind bytes w f false ez whole short is =
+    rw len (whole.is, neither (drop w bytes) whole.ends (fraction_none (drop w bytes) (sym is ∙ none)), whole.within)
+number_form bytes w f false ez whole is =
     let some : f ≡ 0 → ⊥ = eqb-false f 0 ez in
     let found : FractionFound (drop w bytes) f = subst (λ (n : ℕ). FractionFound (drop w bytes) n) (sym is) (fraction_found (drop w bytes) (λ e. some (is ∙ e))) in
     let halves : take (w + f) bytes ≡ take w bytes ++ take f (drop w bytes) = take-add w f bytes in
@@ -375,11 +378,13 @@ number_kind bytes w f false ez whole short is =
       is_fraction = found.is_fraction;
       is_exponent = found.is_exponent;
     } in
-    record {
-      spelled = (real, short);
-      stopped = (subst (λ (r : List ℕ). NotFirst is_digit r) behind found.ends, λ none. subst (λ (r : List ℕ). begins_exponent r ≡ false) behind (found.last (any_right (take w bytes) (take f (drop w bytes)) (sym (ap has_e halves) ∙ none))));
-      within = omega (arith, found.within, whole.within, length-drop w bytes);
-    }
+    let last : has_e (take (w + f) bytes) ≡ false → begins_exponent (drop (w + f) bytes) ≡ false =
+    λ none. subst (λ (r : List ℕ). begins_exponent r ≡ false) behind (found.last (any_right (take w bytes) (take f (drop w bytes)) (sym (ap has_e halves) ∙ none))) in
+    (real, (subst (λ (r : List ℕ). NotFirst is_digit r) behind found.ends, last), omega (arith, found.within, whole.within, length-drop w bytes))
+
+number_kind : (bytes : List ℕ) (len : ℕ) (z : Bool) → NumberForm z bytes len → count_by is_digit (take len bytes) ≤ 38 → TokenFound (cond z kinds.Int kinds.Real) bytes len
+number_kind bytes len true form short = record { spelled = (form.0, short); stopped = form.1; within = form.2 }
+number_kind bytes len false form short = record { spelled = (form.0, short); stopped = form.1; within = form.2 }
 
 pub number_found : (at : ℕ) (bytes : List ℕ) (piece : Piece) → number at bytes ≡ answered piece → Found bytes piece
 unfolding number
@@ -389,43 +394,108 @@ number_found at bytes piece e =
     let c = count_by is_digit (take (w + f) bytes) in
     let k = cond (eqb f 0) kinds.Int kinds.Real in
     let s = number_step at w f c piece (eqb w 0) (ltb 38 c) k refl refl e in
-    subst (λ (p : Piece). Found bytes p) s.2 (number_kind bytes w f (eqb f 0) refl (int_found bytes s.0) s.1 refl)
+    subst (λ (p : Piece). Found bytes p) s.2 (number_kind bytes (w + f) (eqb f 0) (number_form bytes w f (eqb f 0) refl (int_found bytes s.0) refl) s.1)
 
-number_from : (at w f : ℕ) (bytes : List ℕ) (k : TokenKind) → int_len bytes ≡ w → fraction_len (drop w bytes) ≡ f → 0 < w → IsShort (take (w + f) bytes) → cond (eqb f 0) kinds.Int kinds.Real ≡ k
-    → number at bytes ≡ answered (Spelling k (w + f))
-unfolding number
-number_from at w f bytes k is_w is_f some short is_k =
-    let filled : eqb w 0 ≡ false = ne_eqb w 0 (λ (e : w ≡ 0). omega arith) in
-    let few : ltb 38 (count_by is_digit (take (w + f) bytes)) ≡ false = le-ltb 38 (count_by is_digit (take (w + f) bytes)) short in
-    rw (is_w, is_f, filled, few, is_k) refl
+-- the parts of a number in front of a rest
+pub record NumberParts (kind : TokenKind) (text rest : List ℕ) : Type 0 where
+  pub whole : ℕ
+  pub fraction : ℕ
+  pub is_whole : int_len (text ++ rest) ≡ whole
+  pub is_fraction : fraction_len (drop whole (text ++ rest)) ≡ fraction
+  pub some : eqb whole 0 ≡ false
+  pub front : take (whole + fraction) (text ++ rest) ≡ text
+  pub len : whole + fraction ≡ length text
+  pub is_kind : cond (eqb fraction 0) kinds.Int kinds.Real ≡ kind
 
-pub int_number : (at : ℕ) (text rest : List ℕ) → Spells kinds.Int text → Stops kinds.Int text rest → number at (text ++ rest) ≡ answered (Spelling kinds.Int (length text))
-int_number at text rest spelled stopped =
-    let w : int_len (text ++ rest) ≡ length text = int_again text rest spelled.0 (NotFirst-within (λ b. is_digit b || eqb b 46) is_digit rest (λ b h. grind (arith, nat_tests)) stopped) in
+filled : (n : ℕ) → 0 < n → eqb n 0 ≡ false
+filled n h = ne_eqb n 0 (λ (e : n ≡ 0). omega arith)
+
+pub int_parts : (text rest : List ℕ) → IsInt text → Stops kinds.Int text rest → NumberParts kinds.Int text rest
+int_parts text rest int stopped =
     let behind : drop (length text) (text ++ rest) ≡ rest = drop_at text rest (length text) refl in
-    let f : fraction_len (drop (length text) (text ++ rest)) ≡ 0 = rw behind (fraction_nothing rest (NotFirst-within (λ b. is_digit b || eqb b 46) (λ b. eqb b 46) rest (λ b h. grind (arith, nat_tests)) stopped)) in
     let len : length text + 0 ≡ length text = omega arith in
-    let front : take (length text + 0) (text ++ rest) ≡ text = rw len (take_at text rest (length text) refl) in
-    number_from at (length text) 0 (text ++ rest) kinds.Int w f (IsInt-some text spelled.0) (rw front spelled.1) refl ∙ ap (λ (n : ℕ). answered (Spelling kinds.Int n)) len
+    record {
+      whole = length text;
+      fraction = 0;
+      is_whole = int_again text rest int (NotFirst-within (λ b. is_digit b || eqb b 46) is_digit rest (λ b h. grind (arith, nat_tests)) stopped);
+      is_fraction = rw behind (fraction_nothing rest (NotFirst-within (λ b. is_digit b || eqb b 46) (λ b. eqb b 46) rest (λ b h. grind (arith, nat_tests)) stopped));
+      some = filled (length text) (IsInt-some text int);
+      front = rw len (take_at text rest (length text) refl);
+      len = len;
+      is_kind = refl;
+    }
 
-real_number : (at : ℕ) (whole fraction exponent rest : List ℕ) → IsInt whole → Each is_digit fraction → IsExponent exponent → NotFirst is_digit rest
-    → (exponent ≡ [] → begins_exponent rest ≡ false) → IsShort (whole ++ 46 ∷ (fraction ++ exponent))
-    → number at ((whole ++ 46 ∷ (fraction ++ exponent)) ++ rest) ≡ answered (Spelling kinds.Real (length (whole ++ 46 ∷ (fraction ++ exponent))))
-real_number at whole fraction exponent rest int digits power stop none short =
+real_parts_of : (whole fraction exponent rest : List ℕ) → IsInt whole → Each is_digit fraction → IsExponent exponent → NotFirst is_digit rest
+    → (exponent ≡ [] → begins_exponent rest ≡ false) → NumberParts kinds.Real (whole ++ 46 ∷ (fraction ++ exponent)) rest
+real_parts_of whole fraction exponent rest int digits power stop none =
     let text = whole ++ 46 ∷ (fraction ++ exponent) in
     let regrouped : text ++ rest ≡ whole ++ 46 ∷ (fraction ++ (exponent ++ rest)) = simp append_assoc in
-    let w : int_len (text ++ rest) ≡ length whole = rw regrouped (int_again whole (46 ∷ (fraction ++ (exponent ++ rest))) int refl) in
     let behind : drop (length whole) (text ++ rest) ≡ 46 ∷ (fraction ++ (exponent ++ rest)) = rw regrouped (drop_at whole (46 ∷ (fraction ++ (exponent ++ rest))) (length whole) refl) in
     let k = suc (length fraction + length exponent) in
-    let f : fraction_len (drop (length whole) (text ++ rest)) ≡ k = rw behind (fraction_again fraction exponent rest digits power stop none) in
     let len : length text ≡ length whole + k = omega (arith, length-append whole (46 ∷ (fraction ++ exponent)), length-append fraction exponent) in
-    let front : take (length whole + k) (text ++ rest) ≡ text = rw (← len) (take_at text rest (length text) refl) in
-    let some : eqb k 0 ≡ false = ne_eqb k 0 (λ (e : k ≡ 0). omega arith) in
-    number_from at (length whole) k (text ++ rest) kinds.Real w f (IsInt-some whole int) (rw front short) (rw some refl) ∙ ap (λ (n : ℕ). answered (Spelling kinds.Real n)) (sym len)
+    let point : eqb k 0 ≡ false = filled k (omega arith) in
+    record {
+      whole = length whole;
+      fraction = k;
+      is_whole = rw regrouped (int_again whole (46 ∷ (fraction ++ (exponent ++ rest))) int refl);
+      is_fraction = rw behind (fraction_again fraction exponent rest digits power stop none);
+      some = filled (length whole) (IsInt-some whole int);
+      front = rw (← len) (take_at text rest (length text) refl);
+      len = sym len;
+      is_kind = rw point refl;
+    }
 
-pub real_again : (at : ℕ) (text rest : List ℕ) → Spells kinds.Real text → Stops kinds.Real text rest → number at (text ++ rest) ≡ answered (Spelling kinds.Real (length text))
-real_again at text rest spelled stopped =
-    let r = spelled.0 in
+pub real_parts : (text rest : List ℕ) → IsReal text → Stops kinds.Real text rest → NumberParts kinds.Real text rest
+real_parts text rest r stopped =
     let none : r.exponent ≡ [] → begins_exponent rest ≡ false = λ e. stopped.1 (ap has_e r.parts ∙ has_e-append r.whole (46 ∷ (r.fraction ++ r.exponent)) (int_no_e r.whole r.is_whole) ∙ has_e-append (46 ∷ r.fraction) r.exponent (each_no_e r.fraction r.is_fraction) ∙ ap has_e e) in
-    subst (λ (t : List ℕ). number at (t ++ rest) ≡ answered (Spelling kinds.Real (length t))) (sym r.parts)
-    (real_number at r.whole r.fraction r.exponent rest r.is_whole r.is_fraction r.is_exponent stopped.0 none (subst (λ (t : List ℕ). IsShort t) r.parts spelled.1))
+    subst (λ (t : List ℕ). NumberParts kinds.Real t rest) (sym r.parts) (real_parts_of r.whole r.fraction r.exponent rest r.is_whole r.is_fraction r.is_exponent stopped.0 none)
+
+pub number_again : (at : ℕ) (kind : TokenKind) (text rest : List ℕ) → NumberParts kind text rest → IsShort text → number at (text ++ rest) ≡ answered (Spelling kind (length text))
+unfolding number
+number_again at kind text rest p short =
+    let few : ltb 38 (count_by is_digit text) ≡ false = le-ltb 38 (count_by is_digit text) short in
+    rw (p.is_whole, p.is_fraction, p.some, p.front, few, p.is_kind, p.len) refl
+
+pub number_long : (at : ℕ) (kind : TokenKind) (text rest : List ℕ) → NumberParts kind text rest → 38 < count_by is_digit text → number at (text ++ rest) ≡ refused (NumberTooLong at)
+unfolding number
+number_long at kind text rest p long =
+    let many : ltb 38 (count_by is_digit text) ≡ true = lt-ltb 38 (count_by is_digit text) long in
+    rw (p.is_whole, p.is_fraction, p.some, p.front, many) refl
+
+pub int_number : (at : ℕ) (text rest : List ℕ) → Spells kinds.Int text → Stops kinds.Int text rest → number at (text ++ rest) ≡ answered (Spelling kinds.Int (length text))
+int_number at text rest spelled stopped = number_again at kinds.Int text rest (int_parts text rest spelled.0 stopped) spelled.1
+
+pub real_number : (at : ℕ) (text rest : List ℕ) → Spells kinds.Real text → Stops kinds.Real text rest → number at (text ++ rest) ≡ answered (Spelling kinds.Real (length text))
+real_number at text rest spelled stopped = number_again at kinds.Real text rest (real_parts text rest spelled.0 stopped) spelled.1
+
+-- ---- refusals
+
+pub refused_is : (d e : LexErr) → refused d ≡ refused e → d ≡ e
+refused_is d e h = cc
+
+pub answered_not : (p : Piece) (e : LexErr) → answered p ≡ refused e → ⊥
+answered_not p e h = cc
+
+-- why a number is refused: there is none, or it is too long
+pub number_refused : (at : ℕ) (bytes : List ℕ) (e : LexErr) → number at bytes ≡ refused e
+    → ((int_len bytes ≡ 0) × (BadByte at ≡ e)) ⊎ ((z : Bool) × (len : ℕ) × NumberForm z bytes len × (38 < count_by is_digit (take len bytes)) × (NumberTooLong at ≡ e))
+unfolding number
+number_refused at bytes e h =
+    let w = int_len bytes in
+    let f = fraction_len (drop w bytes) in
+    why w f (count_by is_digit (take (w + f) bytes)) (eqb w 0) (ltb 38 (count_by is_digit (take (w + f) bytes))) (cond (eqb f 0) kinds.Int kinds.Real) refl refl refl refl refl h
+  where
+    why : (w f c : ℕ) (x y : Bool) (k : TokenKind) → int_len bytes ≡ w → fraction_len (drop w bytes) ≡ f → count_by is_digit (take (w + f) bytes) ≡ c → eqb w 0 ≡ x → ltb 38 c ≡ y
+        → cond x (refused (BadByte at)) (cond y (refused (NumberTooLong at)) (answered (Spelling k (w + f)))) ≡ refused e
+        → ((int_len bytes ≡ 0) × (BadByte at ≡ e)) ⊎ ((z : Bool) × (len : ℕ) × NumberForm z bytes len × (38 < count_by is_digit (take len bytes)) × (NumberTooLong at ≡ e))
+    why w f c true y k is_w is_f is_c ex ey h = inl (is_w ∙ eqb-true w 0 ex, refused_is (BadByte at) e h)
+    why w f c false true k is_w is_f is_c ex ey h =
+        let whole : IntFound bytes w = subst (λ (n : ℕ). IntFound bytes n) is_w (int_found bytes (λ none. eqb-false w 0 ex (sym is_w ∙ none))) in
+        let long : 38 < count_by is_digit (take (w + f) bytes) = omega (arith, ltb-true 38 c ey, is_c) in
+        inr (eqb f 0, w + f, number_form bytes w f (eqb f 0) refl whole (sym is_f), long, refused_is (NumberTooLong at) e h)
+    why w f c false false k is_w is_f is_c ex ey h = absurd (answered_not (Spelling k (w + f)) e h)
+
+-- where no integer begins, there is no number
+pub number_none : (at : ℕ) (bytes : List ℕ) → int_len bytes ≡ 0 → number at bytes ≡ refused (BadByte at)
+unfolding number
+number_none at bytes none = let zero_is : eqb (int_len bytes) 0 ≡ true = eq-eqb (int_len bytes) 0 none in rw zero_is refl

@@ -12,10 +12,10 @@ use Rattle.p21_lex.specs.Class.{is_digit, is_sign, is_upper, is_plain, is_word, 
 use Rattle.p21_lex.specs.Number.{digits_len, name_value}
 use Rattle.p21_lex.specs.Scan.{text_end, binary_end, comment_end}
 use Rattle.p21_lex.specs.Front.{number, name, user_word, enumeration, closed, commented, comment, mark, front}
-use Rattle.p21_lex.specs.Reading.{IsKeyword, IsDigits, IsInt, IsInside, IsComment, IsGap, Spells, Stops}
+use Rattle.p21_lex.specs.Reading.{IsKeyword, IsDigits, IsInt, IsReal, IsInside, IsComment, IsGap, Spells, Stops}
 use Rattle.p21_lex.proofs.Runs.{one_more, runs}
 use Rattle.p21_lex.proofs.Texts.{text_again, binary_again, comment_again}
-use Rattle.p21_lex.proofs.Numbers.{digits_each, answered, int_number, real_again}
+use Rattle.p21_lex.proofs.Numbers.{digits_each, answered, int_number, real_number}
 
 -- the front is this token
 abbrev pub IsFront : TokenKind → List ℕ → List ℕ → Type 0
@@ -32,7 +32,7 @@ word_again [] rest spelled stopped at = absurd spelled
 word_again (b ∷ bs) rest spelled stopped at =
     front_upper at b (bs ++ rest) spelled.0 ∙ ap (λ (n : ℕ). answered (Spelling Word (1 + n))) (runs is_word bs rest spelled.1 stopped) ∙ ap (λ (n : ℕ). answered (Spelling Word n)) (one_more (length bs))
 
-front_user : (at : ℕ) (bs : List ℕ) → front at (33 ∷ bs) ≡ user_word at bs
+pub front_user : (at : ℕ) (bs : List ℕ) → front at (33 ∷ bs) ≡ user_word at bs
 unfolding front
 front_user at bs = refl
 
@@ -48,11 +48,11 @@ user_word_again (b ∷ bs) rest h stop at =
 
 -- ---- names
 
-front_name : (at : ℕ) (bs : List ℕ) → front at (35 ∷ bs) ≡ name at bs
+pub front_name : (at : ℕ) (bs : List ℕ) → front at (35 ∷ bs) ≡ name at bs
 unfolding front
 front_name at bs = refl
 
-digits_filled : (xs : List ℕ) → IsDigits xs → eqb (length xs) 0 ≡ false
+pub digits_filled : (xs : List ℕ) → IsDigits xs → eqb (length xs) 0 ≡ false
 digits_filled [] h = absurd h
 digits_filled (x ∷ xs) h = ne_eqb (suc (length xs)) 0 (λ (e : suc (length xs) ≡ 0). omega arith)
 
@@ -71,14 +71,14 @@ name_again digits rest h low high stop at =
 
 -- ---- numbers
 
-front_number : (at b : ℕ) (bs : List ℕ) → (is_sign b || is_digit b) ≡ true → front at (b ∷ bs) ≡ number at (b ∷ bs)
+pub front_number : (at b : ℕ) (bs : List ℕ) → (is_sign b || is_digit b) ≡ true → front at (b ∷ bs) ≡ number at (b ∷ bs)
 unfolding front
 front_number at b bs begins =
     let solid : is_blank b ≡ false = grind (arith, nat_tests) in
     let lower : is_upper b ≡ false = grind (arith, nat_tests) in
     rw (solid, lower, begins) refl
 
-int_begins : (xs rest : List ℕ) (at : ℕ) → IsInt xs → front at (xs ++ rest) ≡ number at (xs ++ rest)
+pub int_begins : (xs rest : List ℕ) (at : ℕ) → IsInt xs → front at (xs ++ rest) ≡ number at (xs ++ rest)
 int_begins [] rest at h = absurd h
 int_begins (b ∷ bs) rest at (inl h) = front_number at b (bs ++ rest) (digit_begins b h.0)
   where
@@ -92,13 +92,14 @@ int_begins (b ∷ bs) rest at (inr h) = front_number at b (bs ++ rest) (sign_beg
 int_front : (text rest : List ℕ) → Spells Int text → Stops Int text rest → IsFront Int text rest
 int_front text rest spelled stopped at = int_begins text rest at spelled.0 ∙ int_number at text rest spelled stopped
 
-real_front : (text rest : List ℕ) → Spells Real text → Stops Real text rest → IsFront Real text rest
-real_front text rest spelled stopped at =
-    let r = spelled.0 in
+pub real_begins : (text rest : List ℕ) (at : ℕ) → IsReal text → front at (text ++ rest) ≡ number at (text ++ rest)
+real_begins text rest at r =
     let tail : List ℕ = 46 ∷ (r.fraction ++ r.exponent) in
     let regrouped : text ++ rest ≡ r.whole ++ (tail ++ rest) = ap (λ (t : List ℕ). t ++ rest) r.parts ∙ append_assoc r.whole tail rest in
-    let begins : front at (text ++ rest) ≡ number at (text ++ rest) = ap (front at) regrouped ∙ int_begins r.whole (tail ++ rest) at r.is_whole ∙ sym (ap (number at) regrouped) in
-    begins ∙ real_again at text rest spelled stopped
+    ap (front at) regrouped ∙ int_begins r.whole (tail ++ rest) at r.is_whole ∙ sym (ap (number at) regrouped)
+
+real_front : (text rest : List ℕ) → Spells Real text → Stops Real text rest → IsFront Real text rest
+real_front text rest spelled stopped at = real_begins text rest at spelled.0 ∙ real_number at text rest spelled stopped
 
 -- ---- what is closed
 
@@ -108,7 +109,7 @@ regroup_mark inside rest byte = append_assoc inside (byte ∷ []) rest
 length_mark : (inside : List ℕ) (byte : ℕ) → suc (length inside) ≡ length (inside ++ byte ∷ [])
 length_mark inside byte = omega (arith, length-append inside (byte ∷ []))
 
-front_text : (at : ℕ) (bs : List ℕ) → front at (39 ∷ bs) ≡ closed Text at (text_end bs)
+pub front_text : (at : ℕ) (bs : List ℕ) → front at (39 ∷ bs) ≡ closed Text at (text_end bs)
 unfolding front
 front_text at bs = refl
 
@@ -117,7 +118,7 @@ text_front inside rest h stop at =
     front_text at ((inside ++ 39 ∷ []) ++ rest) ∙ ap (λ (t : List ℕ). closed Text at (text_end t)) (regroup_mark inside rest 39) ∙ ap (closed Text at) (text_again inside rest h stop)
     ∙ ap (λ (n : ℕ). answered (Spelling Text n)) (one_more (suc (length inside)) ∙ ap suc (length_mark inside 39))
 
-front_binary : (at : ℕ) (bs : List ℕ) → front at (34 ∷ bs) ≡ closed Binary at (binary_end bs)
+pub front_binary : (at : ℕ) (bs : List ℕ) → front at (34 ∷ bs) ≡ closed Binary at (binary_end bs)
 unfolding front
 front_binary at bs = refl
 
@@ -126,11 +127,11 @@ binary_front inside rest h at =
     front_binary at ((inside ++ 34 ∷ []) ++ rest) ∙ ap (λ (t : List ℕ). closed Binary at (binary_end t)) (regroup_mark inside rest 34) ∙ ap (closed Binary at) (binary_again inside rest h)
     ∙ ap (λ (n : ℕ). answered (Spelling Binary n)) (one_more (suc (length inside)) ∙ ap suc (length_mark inside 34))
 
-front_enumeration : (at : ℕ) (bs : List ℕ) → front at (46 ∷ bs) ≡ enumeration at bs
+pub front_enumeration : (at : ℕ) (bs : List ℕ) → front at (46 ∷ bs) ≡ enumeration at bs
 unfolding front
 front_enumeration at bs = refl
 
-enumeration_at : (at b n : ℕ) (bs : List ℕ) → is_upper b ≡ true → prefix_len is_plain bs ≡ n → get_or bs n 0 ≡ 46 → enumeration at (b ∷ bs) ≡ answered (Spelling Enumeration (3 + n))
+pub enumeration_at : (at b n : ℕ) (bs : List ℕ) → is_upper b ≡ true → prefix_len is_plain bs ≡ n → get_or bs n 0 ≡ 46 → enumeration at (b ∷ bs) ≡ answered (Spelling Enumeration (3 + n))
 unfolding enumeration
 enumeration_at at b n bs upper run point = rw (upper, run, point) refl
 
@@ -210,7 +211,7 @@ front_blank : (at b : ℕ) (bs : List ℕ) → is_blank b ≡ true → front at 
 unfolding front
 front_blank at b bs blank = rw blank refl
 
-front_comment : (at : ℕ) (bs : List ℕ) → front at (47 ∷ 42 ∷ bs) ≡ commented at (comment_end bs)
+pub front_comment : (at : ℕ) (bs : List ℕ) → front at (47 ∷ 42 ∷ bs) ≡ commented at (comment_end bs)
 unfolding front comment
 front_comment at bs = refl
 
@@ -220,7 +221,7 @@ comment_front gap rest h at =
     let regrouped : (inside ++ 42 ∷ 47 ∷ []) ++ rest ≡ inside ++ 42 ∷ 47 ∷ rest = append_assoc inside (42 ∷ 47 ∷ []) rest in
     let len : 2 + suc (suc (length inside)) ≡ suc (suc (length (inside ++ 42 ∷ 47 ∷ []))) = omega (arith, length-append inside (42 ∷ 47 ∷ [])) in
     let here : front at ((47 ∷ 42 ∷ (inside ++ 42 ∷ 47 ∷ [])) ++ rest) ≡ answered (Gap (length (47 ∷ 42 ∷ (inside ++ 42 ∷ 47 ∷ [])))) =
-    front_comment at ((inside ++ 42 ∷ 47 ∷ []) ++ rest) ∙ ap (λ (t : List ℕ). commented at (comment_end t)) regrouped ∙ ap (commented at) (comment_again inside rest (h.2, h.3)) ∙ ap (λ (n : ℕ). answered (Gap n)) len in
+    front_comment at ((inside ++ 42 ∷ 47 ∷ []) ++ rest) ∙ ap (λ (t : List ℕ). commented at (comment_end t)) regrouped ∙ ap (commented at) (comment_again inside rest h.2) ∙ ap (λ (n : ℕ). answered (Gap n)) len in
     subst (λ (t : List ℕ). front at (t ++ rest) ≡ answered (Gap (length t))) (sym h.1) here
 
 pub gap_front : (gap rest : List ℕ) → IsGap gap → IsGapFront gap rest

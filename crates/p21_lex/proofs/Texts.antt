@@ -8,18 +8,18 @@ use Rattle.p21_lex.specs.declared.scan.Unclosed.{Unclosed}
 use Rattle.p21_lex.specs.declared.scan.Unclosed.TheVariants.{Cut, Bad}
 use Rattle.p21_lex.specs.Class.{is_hex, is_legal, Each, NotFirst}
 use Rattle.p21_lex.specs.Scan.{shifted, text_end, binary_end, comment_end}
-use Rattle.p21_lex.specs.Reading.{IsInside, has_end}
+use Rattle.p21_lex.specs.Reading.{IsInside, IsCommentInside, has_end}
 
-abbrev done : ℕ → Result ℕ Unclosed
+abbrev pub done : ℕ → Result ℕ Unclosed
 done n = Ok n
 
-abbrev lost : Unclosed → Result ℕ Unclosed
+abbrev pub lost : Unclosed → Result ℕ Unclosed
 lost u = Err u
 
-done_is : (m n : ℕ) → done m ≡ done n → m ≡ n
+pub done_is : (m n : ℕ) → done m ≡ done n → m ≡ n
 done_is m n e = cc
 
-done_lost : (n : ℕ) (u : Unclosed) → lost u ≡ done n → ⊥
+pub done_lost : (n : ℕ) (u : Unclosed) → lost u ≡ done n → ⊥
 done_lost n u e = cc
 
 shifted_done : (k n : ℕ) (r : Result ℕ Unclosed) → shifted k r ≡ done n → (m : ℕ) × (r ≡ done m) × (n ≡ k + m)
@@ -39,7 +39,7 @@ pub record Closes (Inside : List ℕ → Type 0) (mark : List ℕ) (bytes : List
 abbrev pub apostrophe : List ℕ
 apostrophe = 39 ∷ []
 
-inside_more : (b : ℕ) (inside : List ℕ) → eqb b 39 ≡ false → IsTrue (is_legal b) → IsInside inside → IsInside (b ∷ inside)
+pub inside_more : (b : ℕ) (inside : List ℕ) → eqb b 39 ≡ false → IsTrue (is_legal b) → IsInside inside → IsInside (b ∷ inside)
 inside_more b [] other legal h = (other, legal)
 inside_more b (c ∷ cs) other legal h = inr (other, legal, h)
 
@@ -78,7 +78,7 @@ unfolding text_end
 text_ends [] stop = refl
 text_ends (c ∷ cs) stop = rw stop refl
 
-text_passes : (b : ℕ) (rest : List ℕ) → eqb b 39 ≡ false → IsTrue (is_legal b) → 0 < length rest → text_end (b ∷ rest) ≡ shifted 1 (text_end rest)
+pub text_passes : (b : ℕ) (rest : List ℕ) → eqb b 39 ≡ false → IsTrue (is_legal b) → 0 < length rest → text_end (b ∷ rest) ≡ shifted 1 (text_end rest)
 unfolding text_end
 text_passes b [] other legal some = absurd (omega arith)
 text_passes b (c ∷ cs) other legal some = rw (other, legal) refl
@@ -124,10 +124,10 @@ binary_ends : (rest : List ℕ) → binary_end (34 ∷ rest) ≡ done 1
 unfolding binary_end
 binary_ends rest = refl
 
-hex_is_no_mark : (b : ℕ) → is_hex b ≡ true → eqb b 34 ≡ false
+pub hex_is_no_mark : (b : ℕ) → is_hex b ≡ true → eqb b 34 ≡ false
 hex_is_no_mark b h = grind (arith, nat_tests)
 
-binary_passes : (b : ℕ) (rest : List ℕ) → IsTrue (is_hex b) → binary_end (b ∷ rest) ≡ shifted 1 (binary_end rest)
+pub binary_passes : (b : ℕ) (rest : List ℕ) → IsTrue (is_hex b) → binary_end (b ∷ rest) ≡ shifted 1 (binary_end rest)
 unfolding binary_end
 binary_passes b rest hex = rw (hex_is_no_mark b hex, hex) refl
 
@@ -141,12 +141,8 @@ abbrev pub closing : List ℕ
 closing = 42 ∷ 47 ∷ []
 
 -- whether a comment's closing mark stands first
-abbrev ends_at : List ℕ → Bool
+abbrev pub ends_at : List ℕ → Bool
 ends_at bytes = starts_with nat_eq bytes (42 ∷ 47 ∷ [])
-
--- an inside of a comment
-abbrev pub IsCommentInside : List ℕ → Type 0
-IsCommentInside inside = Each is_legal inside × (has_end inside ≡ false)
 
 ends_at-take : (b : ℕ) (bs inside : List ℕ) (m : ℕ) → ends_at (b ∷ bs) ≡ false → take m bs ≡ inside ++ closing → ends_at (b ∷ inside) ≡ false
 ends_at-take b bs [] m not_here e = ends_at_one b
@@ -193,11 +189,11 @@ comment_ends : (rest : List ℕ) → comment_end (42 ∷ 47 ∷ rest) ≡ done 2
 unfolding comment_end
 comment_ends rest = refl
 
-comment_passes : (b : ℕ) (rest : List ℕ) → ends_at (b ∷ rest) ≡ false → IsTrue (is_legal b) → comment_end (b ∷ rest) ≡ shifted 1 (comment_end rest)
+pub comment_passes : (b : ℕ) (rest : List ℕ) → ends_at (b ∷ rest) ≡ false → IsTrue (is_legal b) → comment_end (b ∷ rest) ≡ shifted 1 (comment_end rest)
 unfolding comment_end
 comment_passes b rest not_here legal = rw (not_here, legal) refl
 
-or_none : (x y : Bool) → (x || y) ≡ false → (x ≡ false) × (y ≡ false)
+pub or_none : (x y : Bool) → (x || y) ≡ false → (x ≡ false) × (y ≡ false)
 or_none true y h = absurd cc
 or_none false y h = (refl, h)
 

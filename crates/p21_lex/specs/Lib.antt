@@ -4,3 +4,4 @@ pub mod Scan
 pub mod Front
 pub mod Tokens
 pub mod Reading
+pub mod Refusal

@@ -12,5 +12,8 @@ mod token;
 pub use error::LexErr;
 pub use lexer::{reading_laws, tokens, tokens_fit};
 pub use number::name_number;
-pub use piece::{Piece, front};
+pub use piece::{Piece, front, spells};
 pub use token::{Token, TokenKind};
+
+#[cfg(test)]
+mod tests;

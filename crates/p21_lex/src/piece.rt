@@ -1,9 +1,13 @@
 //! What stands at the front of a text.
 
-ghost use Rattle.std.specs.Prelude.{◌≡◌, ◌≤◌, ◌<◌, ◌+◌, length, IfOk, count_by};
+ghost use Rattle.std.specs.Prelude.{◌≡◌, ◌↔◌, ℕ, ◌≤◌, ◌<◌, ◌+◌, ◌++◌, List, length, IfOk, IfErr, IsTrue, Ok, Err, count_by};
 ghost use Rattle.p21_lex.specs.Class.{is_digit};
 ghost use Rattle.p21_lex.specs.Front.{number, name, user_word, enumeration, closed, comment, mark, marked, front, piece_len};
+ghost use Rattle.p21_lex.specs.Reading.{IsPiece, Spells, Stops};
+ghost use Rattle.p21_lex.specs.Refusal.{IsFault};
 ghost use Rattle.p21_lex.specs.Scan.{text_end, binary_end, IsBelow};
+ghost use Rattle.p21_lex.specs.declared.error.LexErr.{LexErr};
+ghost use Rattle.p21_lex.specs.declared.token.TokenKind.{TokenKind};
 
 use crate::class::{digits_len, is_digit, is_upper, plain_len, word_len};
 use crate::error::LexErr;
@@ -18,6 +22,16 @@ pub enum Piece {
     Gap(usize),
     /// A token of a kind.
     Spelling(TokenKind, usize),
+}
+
+impl Piece {
+    pub fn len(self) -> usize
+        ensures { result ≡ piece_len self }
+    {
+        match self {
+            Piece::Gap(len) | Piece::Spelling(_, len) => len,
+        }
+    }
 }
 
 /// The digits that one number may have in all its parts.
@@ -169,10 +183,8 @@ fn marked(at: u32, byte: u8) -> Result<Piece, LexErr>
     }
 }
 
-/// What stands at the front of bytes of which the first lies at a place: a blank, a comment or a token, each token as
-/// long as its form allows, or why none of them does (ISO 10303-21, clear text encoding). An empty text has a gap of no bytes.
 #[tactic(auto, unfolding(crate::specs::Front::front))]
-pub fn front(at: u32, bytes: &[u8]) -> Result<Piece, LexErr>
+fn piece_at(at: u32, bytes: &[u8]) -> Result<Piece, LexErr>
     requires { at + length bytes.now ≤ 268435456 }
     ensures exact { result ≡ front at bytes.now }
     ensures within { IfOk result (λ p. piece_len p ≤ length bytes.now) }
@@ -193,4 +205,42 @@ pub fn front(at: u32, bytes: &[u8]) -> Result<Piece, LexErr>
         b'/' => comment(at, behind),
         byte => marked(at, byte),
     }
+}
+
+/// What stands at the front of bytes of which the first lies at a place: a blank, a comment or a token, each token as
+/// long as its form allows, or why none of them does (ISO 10303-21, clear text encoding). An empty text has a gap of no bytes.
+pub fn front(at: u32, bytes: &[u8]) -> Result<Piece, LexErr>
+    requires { at + length bytes.now ≤ 268435456 }
+    // What is found there has the form of its kind.
+    ensures found { 0 < length bytes.now → IfOk result (IsPiece bytes.now) }
+    // What has the form, and does not go on, is found.
+    ensures only { (kind : TokenKind) (text rest : List ℕ)
+        → bytes.now ≡ text ++ rest → Spells kind text → Stops kind text rest → result ≡ Ok (Piece.Spelling kind (length text)) }
+    // What is refused has this fault, and what has a fault is refused for it.
+    ensures refused { IfErr result (IsFault at bytes.now) }
+    ensures refuses { (e : LexErr) → IsFault at bytes.now e → result ≡ Err e }
+    // The same as a function of the bytes.
+    ensures exact { result ≡ front at bytes.now }
+
+    ensures within { IfOk result (λ p. piece_len p ≤ length bytes.now) }
+    ensures filled { 0 < length bytes.now → IfOk result (λ p. 0 < piece_len p) }
+{
+    piece_at(at, bytes)
+}
+
+fn is_answer(answer: Result<Piece, LexErr>, piece: Piece) -> bool
+    ensures { IsTrue result ↔ (answer ≡ Ok piece) }
+{
+    match answer {
+        Ok(found) => found == piece,
+        Err(_) => false,
+    }
+}
+
+/// Whether a text is the spelling of a kind: all of it, and within the kind's range.
+pub fn spells(kind: TokenKind, text: &[u8]) -> bool
+    requires { length text.now ≤ 268435456 }
+    ensures { IsTrue result ↔ Spells kind text.now }
+{
+    is_answer(front(0, text), Piece::Spelling(kind, text.len()))
 }
