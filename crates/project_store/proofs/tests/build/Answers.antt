@@ -13,7 +13,7 @@ below n m h = grind (arith, nat_tests)
 
 all_differ : (c a b : ℕ) → a < b → b < c → IsDistinct nat_eq (c ∷ a ∷ b ∷ [])
 unfolding IsDistinct
-all_differ c a b h k = ((differ c a (omega arith), differ c b k, tt), (below a b h, tt), tt, tt)
+all_differ c a b h k = ((differ c a (omega arith), (differ c b k, tt)), ((below a b h, tt), (tt, tt)))
 
 pub build-requires : goal.build-requires
 build-requires c =
