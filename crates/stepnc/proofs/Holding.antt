@@ -8,11 +8,12 @@ use Rattle.entity_read.specs.Typed.{EntityTree, entity_of}
 use Rattle.project_store.specs.declared.error.StoreErr.{StoreErr}
 use Rattle.project_store.specs.declared.error.StoreErr.TheVariants as stores
 use Rattle.project_store.specs.Build.{fault_of, Builds}
-use Rattle.stepnc.specs.declared.project.ProjectErr.TheVariants.{NotBuilt}
+use Rattle.stepnc.specs.declared.project.ProjectErr.{ProjectErr}
+use Rattle.stepnc.specs.declared.project.ProjectErr.TheVariants.{NotBuilt, NoMemory}
 use Rattle.stepnc.specs.Errors.{from_store}
 use Rattle.stepnc.specs.Narrow.{can_run}
 use Rattle.stepnc.specs.Project.{Project, IsProject, all_typed, main_plan, is_runnable}
-use Rattle.stepnc.specs.Projects.{Reads}
+use Rattle.stepnc.specs.Projects.{Reads, AreSteps}
 use Rattle.stepnc.proofs.Beginnings.{no_test}
 use Rattle.stepnc.proofs.SameEntity.{same_entities}
 
@@ -70,3 +71,7 @@ not_defined x es main steps all plan e p held =
     let same : list_all (is_runnable p.entities) p.steps ≡ list_all (is_runnable es) steps =
         ap (λ (ns : List ℕ). list_all (is_runnable p.entities) ns) (steps_are x es main steps p all plan held) ∙ ap (λ (fs : List Entity). list_all (is_runnable fs) steps) (entities_are x es p all held) in
     no_test (list_all (is_runnable p.entities) p.steps) held.defined (same ∙ e)
+
+pub steps_stop : (x : ExchangeTree) (es : List Entity) (main : ℕ) (steps : List ℕ) (e : ProjectErr) → all_typed x.items ≡ Some (map entity_of es) → main_plan es ≡ Some (main, steps) → AreSteps es steps (Err e) → Reads x (Err e)
+steps_stop x es main steps NotBuilt all plan said = not_defined x es main steps all plan said
+steps_stop x es main steps NoMemory all plan said = tt

@@ -10,7 +10,7 @@ use Rattle.stepnc.proofs.project.entities_of.Goals as goal
 
 pub returns-in_err-entity : goal.returns-in_err-entity
 returns-in_err-entity c =
-    let p = err_from_is_err_and c.from_residual.result c.from_residual.ensures.1 in
+    let p = err_from_is_err_and c.from_residual-in_err-entity.result c.from_residual-in_err-entity.ensures.1 in
     rw (p.1, p.2) (one_untyped c.args.instances.now c.loop-instance.instance-index c.instance-item.result c.loop-instance-test.true c.instance-item.is c.in_err-entity.field-0.0 c.in_err-entity.ensures)
 
 pub loop-instance-preserved : goal.loop-instance-preserved
