@@ -452,16 +452,15 @@ fn part(alloc: Global, row: &Row, at: u8, other: &[u8]) -> Result<Part, NoMemory
     let mut parameters = ParamList::new(alloc);
     let mut next = 1;
     for (position, kind) in row.positions {
-        while next < *position {
+        for _ in next..*position {
             parameters.push(param(alloc, b'x')?)?;
-            next += 1;
         }
         let fits: &[u8] = match fitting(*kind) {
             [first, ..] => first,
             [] => b"$",
         };
         parameters.push(form(alloc, if *position == at { other } else { fits })?)?;
-        next = next.saturating_add(1);
+        next = position.saturating_add(1);
     }
     Ok(Part {
         keyword: text(alloc, row.keyword)?,

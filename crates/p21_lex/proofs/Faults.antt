@@ -1,17 +1,16 @@
 -- Texts, binaries and comments that have no end, and those that hold a byte that may not stand in them.
-use Rattle.std.proofs.Common.{◌≡◌, ℕ, zero, suc, ◌+◌, ◌<◌, ◌≤◌, Bool, true, false, cond, eqb, ◌||◌, ◌&&◌, List, [], ◌∷◌, ◌++◌, length, take, drop, Result, Ok, Err, refl, sym, ap, subst, ◌∙◌, inl, inr, append_assoc, arith}
-use Rattle.std.specs.Prelude.{nat_eq, IsTrue}
-use Rattle.std.specs.List.{starts_with}
-use Rattle.std.proofs.lemmas.Bool.{eqb-true, eqb-false}
+use Rattle.std.proofs.Common.{◌≡◌, ℕ, suc, ◌+◌, Bool, true, false, cond, eqb, ◌||◌, ◌&&◌, List, [], ◌∷◌, ◌++◌, length, Result, Ok, Err, refl, sym, ap, subst, ◌∙◌, inl, inr, arith}
+use Rattle.std.specs.Prelude.{IsTrue}
+use Rattle.std.proofs.lemmas.Bool.{eqb-true}
 use Rattle.std.proofs.lemmas.Bool.Decides.{nat_tests}
-use Rattle.std.proofs.lemmas.List.{append-nil, length-append}
+use Rattle.std.proofs.lemmas.List.{append-nil}
 use Rattle.p21_lex.specs.declared.scan.Unclosed.{Unclosed}
 use Rattle.p21_lex.specs.declared.scan.Unclosed.TheVariants.{Cut, Bad}
 use Rattle.p21_lex.specs.Class.{is_hex, is_legal, Each, NotFirst}
 use Rattle.p21_lex.specs.Scan.{shifted, text_end, binary_end, comment_end}
 use Rattle.p21_lex.specs.Reading.{IsInside, IsCommentInside, has_end}
 use Rattle.p21_lex.proofs.Shifts.{shifted_none, shifted_more}
-use Rattle.p21_lex.proofs.Texts.{done, lost, done_is, done_lost, inside_more, ends_at, or_none, text_passes, binary_passes, comment_passes, hex_is_no_mark}
+use Rattle.p21_lex.proofs.Texts.{done, lost, inside_more, ends_at, or_none, binary_passes, comment_passes}
 
 -- the same fault, seen from so many bytes before
 abbrev pub moved : ℕ → Unclosed → Unclosed

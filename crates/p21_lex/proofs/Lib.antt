@@ -8,9 +8,9 @@ pub mod Fronts
 pub mod Spelled
 pub mod Whole
 pub mod Places
-pub mod Memory
 pub mod Names
 pub mod Longest
 pub mod Pieces
 pub mod Faults
 pub mod Refused
+pub mod Refusals

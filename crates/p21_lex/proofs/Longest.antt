@@ -1,13 +1,10 @@
 -- Where a spelling stops, no longer front spells a token.
-use Rattle.std.proofs.Common.{◌≡◌, ℕ, zero, suc, ◌+◌, ◌≤◌, Bool, true, false, eqb, ◌||◌, ◌&&◌, List, [], ◌∷◌, ◌++◌, length, Result, Ok, refl, sym, ap, subst, ◌∙◌, append_assoc, arith}
-use Rattle.std.specs.List.{list_any}
-use Rattle.std.proofs.lemmas.List.{length-append, nil_from_length}
-use Rattle.p21_lex.specs.declared.error.LexErr.{LexErr}
+use Rattle.std.proofs.Common.{◌≡◌, ℕ, Bool, true, false, eqb, ◌||◌, ◌&&◌, List, [], ◌∷◌, ◌++◌, length, refl, sym, ap, ◌∙◌, append_assoc, arith}
+use Rattle.std.proofs.lemmas.List.{length-append}
 use Rattle.p21_lex.specs.declared.token.TokenKind.{TokenKind}
 use Rattle.p21_lex.specs.declared.token.TokenKind.TheVariants.{Word, UserWord, Name, Int, Real, Text, Enumeration, Binary, Open, Close, Comma, Semicolon, Equals, Dollar, Star}
-use Rattle.p21_lex.specs.declared.piece.Piece.{Piece}
 use Rattle.p21_lex.specs.declared.piece.Piece.TheVariants.{Spelling}
-use Rattle.p21_lex.specs.Class.{is_digit, is_sign, NotFirst}
+use Rattle.p21_lex.specs.Class.{is_digit, is_sign}
 use Rattle.p21_lex.specs.Front.{front}
 use Rattle.p21_lex.specs.Reading.{begins_int, begins_exponent, Spells, Stops}
 use Rattle.p21_lex.proofs.Numbers.{answered}

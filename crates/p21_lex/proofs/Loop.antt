@@ -19,7 +19,7 @@ with_front-with_front : (xs ys : List Token) (r : Result (List Token) LexErr) �
 with_front-with_front xs ys (Ok zs) = ap (λ (ts : List Token). Ok ts) (sym (append_assoc xs ys zs))
 with_front-with_front xs ys (Err e) = refl
 
-with_front-nil : (r : Result (List Token) LexErr) → with_front [] r ≡ r
+pub with_front-nil : (r : Result (List Token) LexErr) → with_front [] r ≡ r
 with_front-nil (Ok ts) = refl
 with_front-nil (Err e) = refl
 

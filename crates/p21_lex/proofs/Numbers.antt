@@ -379,7 +379,7 @@ number_form bytes w f false ez whole is =
       is_exponent = found.is_exponent;
     } in
     let last : has_e (take (w + f) bytes) ≡ false → begins_exponent (drop (w + f) bytes) ≡ false =
-      λ none. subst (λ (r : List ℕ). begins_exponent r ≡ false) behind (found.last (any_right (take w bytes) (take f (drop w bytes)) (sym (ap has_e halves) ∙ none))) in
+    λ none. subst (λ (r : List ℕ). begins_exponent r ≡ false) behind (found.last (any_right (take w bytes) (take f (drop w bytes)) (sym (ap has_e halves) ∙ none))) in
     (real, (subst (λ (r : List ℕ). NotFirst is_digit r) behind found.ends, last), omega (arith, found.within, whole.within, length-drop w bytes))
 
 number_kind : (bytes : List ℕ) (len : ℕ) (z : Bool) → NumberForm z bytes len → count_by is_digit (take len bytes) ≤ 38 → TokenFound (cond z kinds.Int kinds.Real) bytes len
@@ -486,13 +486,13 @@ number_refused at bytes e h =
     why w f (count_by is_digit (take (w + f) bytes)) (eqb w 0) (ltb 38 (count_by is_digit (take (w + f) bytes))) (cond (eqb f 0) kinds.Int kinds.Real) refl refl refl refl refl h
   where
     why : (w f c : ℕ) (x y : Bool) (k : TokenKind) → int_len bytes ≡ w → fraction_len (drop w bytes) ≡ f → count_by is_digit (take (w + f) bytes) ≡ c → eqb w 0 ≡ x → ltb 38 c ≡ y
-      → cond x (refused (BadByte at)) (cond y (refused (NumberTooLong at)) (answered (Spelling k (w + f)))) ≡ refused e
-      → ((int_len bytes ≡ 0) × (BadByte at ≡ e)) ⊎ ((z : Bool) × (len : ℕ) × NumberForm z bytes len × (38 < count_by is_digit (take len bytes)) × (NumberTooLong at ≡ e))
+        → cond x (refused (BadByte at)) (cond y (refused (NumberTooLong at)) (answered (Spelling k (w + f)))) ≡ refused e
+        → ((int_len bytes ≡ 0) × (BadByte at ≡ e)) ⊎ ((z : Bool) × (len : ℕ) × NumberForm z bytes len × (38 < count_by is_digit (take len bytes)) × (NumberTooLong at ≡ e))
     why w f c true y k is_w is_f is_c ex ey h = inl (is_w ∙ eqb-true w 0 ex, refused_is (BadByte at) e h)
     why w f c false true k is_w is_f is_c ex ey h =
-      let whole : IntFound bytes w = subst (λ (n : ℕ). IntFound bytes n) is_w (int_found bytes (λ none. eqb-false w 0 ex (sym is_w ∙ none))) in
-      let long : 38 < count_by is_digit (take (w + f) bytes) = omega (arith, ltb-true 38 c ey, is_c) in
-      inr (eqb f 0, w + f, number_form bytes w f (eqb f 0) refl whole (sym is_f), long, refused_is (NumberTooLong at) e h)
+        let whole : IntFound bytes w = subst (λ (n : ℕ). IntFound bytes n) is_w (int_found bytes (λ none. eqb-false w 0 ex (sym is_w ∙ none))) in
+        let long : 38 < count_by is_digit (take (w + f) bytes) = omega (arith, ltb-true 38 c ey, is_c) in
+        inr (eqb f 0, w + f, number_form bytes w f (eqb f 0) refl whole (sym is_f), long, refused_is (NumberTooLong at) e h)
     why w f c false false k is_w is_f is_c ex ey h = absurd (answered_not (Spelling k (w + f)) e h)
 
 -- where no integer begins, there is no number

@@ -1,6 +1,6 @@
 -- What stands at the front of a text, by the forms of the kinds.
-use Rattle.std.proofs.Common.{◌≡◌, ℕ, ◌+◌, ◌<◌, ◌≤◌, Bool, true, false, List, [], ◌∷◌, ◌++◌, length, take, drop, Result, Ok, Err, refl, sym, ap, subst, ◌∙◌, arith}
-use Rattle.std.specs.Prelude.{IfOk, IsTrue, ◌↔◌}
+use Rattle.std.proofs.Common.{◌≡◌, ℕ, ◌<◌, List, [], ◌∷◌, ◌++◌, length, Result, Ok, Err, refl, sym, ap, subst, ◌∙◌, arith}
+use Rattle.std.specs.Prelude.{IfOk, ◌↔◌}
 use Rattle.std.proofs.lemmas.List.{append-nil, take_all}
 use Rattle.p21_lex.specs.declared.error.LexErr.{LexErr}
 use Rattle.p21_lex.specs.declared.token.TokenKind.{TokenKind}
@@ -12,7 +12,6 @@ use Rattle.p21_lex.specs.Reading.{IsPiece, Spells, Stops}
 use Rattle.p21_lex.proofs.Numbers.{Found, answered}
 use Rattle.p21_lex.proofs.Fronts.{front_found}
 use Rattle.p21_lex.proofs.Spelled.{spelled_front}
-use Rattle.p21_lex.proofs.Whole.{spelled_some}
 
 piece_of : (bytes : List ℕ) (piece : Piece) → Found bytes piece → IsPiece bytes piece
 piece_of bytes (Gap len) found = (found.within, found.gap)
@@ -49,7 +48,7 @@ stops_at_end Star text = tt
 pub whole_found : (at : ℕ) (text : List ℕ) (r : Result Piece LexErr) (kind : TokenKind) → r ≡ front at text → Spells kind text → r ≡ Ok (Spelling kind (length text))
 whole_found at text r kind is spelled = is_token at text r is kind text [] (sym (append-nil text)) spelled (stops_at_end kind text)
 
-front_nothing : (at : ℕ) → front at [] ≡ answered (Gap 0)
+pub front_nothing : (at : ℕ) → front at [] ≡ answered (Gap 0)
 unfolding front
 front_nothing at = refl
 

@@ -1,16 +1,15 @@
 -- The front of a text that is refused: the cause, both ways.
-use Rattle.std.proofs.Common.{◌≡◌, ℕ, zero, suc, ◌+◌, ◌<◌, ◌≤◌, Bool, true, false, cond, eqb, ltb, leb, ◌||◌, ◌&&◌, List, [], ◌∷◌, ◌++◌, length, take, drop, get_or, Option, Some, None, Result, Ok, Err, refl, sym, ap, subst, ◌∙◌, ◌⊎◌, inl, inr, append_assoc, arith}
+use Rattle.std.proofs.Common.{◌≡◌, ℕ, ◌+◌, ◌<◌, Bool, true, false, cond, eqb, leb, ◌||◌, ◌&&◌, List, [], ◌∷◌, ◌++◌, length, take, drop, get_or, Option, Some, None, Result, Ok, Err, refl, sym, ap, subst, ◌∙◌, ◌⊎◌, inl, inr, arith}
 use Rattle.std.specs.Prelude.{IsTrue, count_by}
-use Rattle.std.specs.List.{prefix_len, list_any}
+use Rattle.std.specs.List.{prefix_len}
 use Rattle.std.specs.Str.Parse.{digits_value}
-use Rattle.std.proofs.lemmas.Bool.{eqb-true, eqb-false, leb-true, leb-false, le-leb, lt-leb, and_parts, and_cases}
+use Rattle.std.proofs.lemmas.Bool.{eqb-true, eqb-false, leb-false, lt-leb, and_parts, and_cases}
 use Rattle.std.proofs.lemmas.Bool.Decides.{nat_tests}
 use Rattle.std.proofs.lemmas.List.{take-append-drop, take_at, drop_more, get_or_at}
 use Rattle.p21_lex.specs.declared.error.LexErr.{LexErr}
 use Rattle.p21_lex.specs.declared.error.LexErr.TheVariants.{BadByte, BadName, OpenString, OpenComment, NumberTooLong, NoMemory}
 use Rattle.p21_lex.specs.declared.token.TokenKind.{TokenKind}
 use Rattle.p21_lex.specs.declared.token.TokenKind.TheVariants as kinds
-use Rattle.p21_lex.specs.declared.piece.Piece.{Piece}
 use Rattle.p21_lex.specs.declared.piece.Piece.TheVariants.{Gap, Spelling}
 use Rattle.p21_lex.specs.declared.scan.Unclosed.{Unclosed}
 use Rattle.p21_lex.specs.declared.scan.Unclosed.TheVariants.{Cut, Bad}
@@ -18,11 +17,11 @@ use Rattle.p21_lex.specs.Class.{is_digit, is_sign, is_upper, is_plain, is_word, 
 use Rattle.p21_lex.specs.Number.{digits_len, int_len}
 use Rattle.p21_lex.specs.Scan.{text_end, binary_end, comment_end}
 use Rattle.p21_lex.specs.Front.{number, name, user_word, enumeration, closed, commented, comment, mark, marked, front}
-use Rattle.p21_lex.specs.Reading.{IsKeyword, IsDigits, IsInt, IsReal, IsInside, IsCommentInside, Stops, begins_int}
+use Rattle.p21_lex.specs.Reading.{IsKeyword, IsInside, IsCommentInside}
 use Rattle.p21_lex.specs.Refusal.{may_begin, IsNothing, IsSpoilt, IsFault}
 use Rattle.p21_lex.proofs.Runs.{run_is, run_ends, runs, no_run}
-use Rattle.p21_lex.proofs.Texts.{lost, or_none}
-use Rattle.p21_lex.proofs.Faults.{Spoils, TextFaulty, BinaryFaulty, CommentFaulty, binary_byte, text_faulty, text_cut, text_spoilt, binary_faulty, binary_cut, binary_spoilt, comment_faulty, comment_cut, comment_spoilt}
+use Rattle.p21_lex.proofs.Texts.{or_none}
+use Rattle.p21_lex.proofs.Faults.{binary_byte, text_faulty, text_cut, text_spoilt, binary_faulty, binary_cut, binary_spoilt, comment_faulty, comment_cut, comment_spoilt}
 use Rattle.p21_lex.proofs.Numbers.{digits_each, digits_found, digits_none, int_none, int_none_again, begins_none, begins_none_back, sign_is_no_digit, NumberForm, number_refused, number_none, number_long, int_parts, real_parts, answered, refused, refused_is, answered_not}
 use Rattle.p21_lex.proofs.Fronts.{chosen, point_within}
 use Rattle.p21_lex.proofs.Spelled.{front_user, front_name, front_number, front_text, front_binary, front_enumeration, front_comment, int_begins, real_begins, digits_filled, enumeration_at}
@@ -41,9 +40,9 @@ number_fault at b bs e begins h = by_cause (number_refused at (b ∷ bs) e h)
   where
     by_cause : ((int_len (b ∷ bs) ≡ 0) × (BadByte at ≡ e)) ⊎ ((z : Bool) × (len : ℕ) × NumberForm z (b ∷ bs) len × (38 < count_by is_digit (take len (b ∷ bs))) × (NumberTooLong at ≡ e)) → IsFault at (b ∷ bs) e
     by_cause (inl c) =
-      let none = begins_none_back b bs (int_none (b ∷ bs) c.0) in
-      let sign : IsTrue (is_sign b) = sign_left b begins none.0 in
-      subst (λ (x : LexErr). IsFault at (b ∷ bs) x) c.1 (inl (refl, inr (inl (inl sign, none.1 sign))))
+        let none = begins_none_back b bs (int_none (b ∷ bs) c.0) in
+        let sign : IsTrue (is_sign b) = sign_left b begins none.0 in
+        subst (λ (x : LexErr). IsFault at (b ∷ bs) x) c.1 (inl (refl, inr (inl (inl sign, none.1 sign))))
     by_cause (inr c) = subst (λ (x : LexErr). IsFault at (b ∷ bs) x) c.4 (long c.0 c.1 c.2 c.3)
       where
         long : (z : Bool) (len : ℕ) → NumberForm z (b ∷ bs) len → 38 < count_by is_digit (take len (b ∷ bs)) → IsFault at (b ∷ bs) (NumberTooLong at)
@@ -65,11 +64,11 @@ name_fault at bs e h =
     let n = digits_len bs in
     let v = digits_value 10 (take n bs) in
     chosen (eqb n 0) (refused (BadByte at)) (cond (leb 1 v && leb v 2147483647) (answered (Spelling kinds.Name (1 + n))) (refused (BadName at))) (refused e) (IsFault at (35 ∷ bs) e) h
-      (λ none is. fault_of at (35 ∷ bs) (BadByte at) e is (inl (refl, inr (inl (inr refl, digits_none bs (eqb-true n 0 none))))))
-      (λ some is. chosen (leb 1 v && leb v 2147483647) (answered (Spelling kinds.Name (1 + n))) (refused (BadName at)) (refused e) (IsFault at (35 ∷ bs) e) is
-        (λ good has. absurd (answered_not (Spelling kinds.Name (1 + n)) e has))
-        (λ bad has. fault_of at (35 ∷ bs) (BadName at) e has
-          (refl, take n bs, drop n bs, ap (λ (xs : List ℕ). 35 ∷ xs) (sym (take-append-drop n bs)), digits_found bs (eqb-false n 0 some), run_ends is_digit bs, out_of_range v bad)))
+    (λ none is. fault_of at (35 ∷ bs) (BadByte at) e is (inl (refl, inr (inl (inr refl, digits_none bs (eqb-true n 0 none))))))
+    (λ some is. chosen (leb 1 v && leb v 2147483647) (answered (Spelling kinds.Name (1 + n))) (refused (BadName at)) (refused e) (IsFault at (35 ∷ bs) e) is
+    (λ good has. absurd (answered_not (Spelling kinds.Name (1 + n)) e has))
+    (λ bad has. fault_of at (35 ∷ bs) (BadName at) e has
+    (refl, take n bs, drop n bs, ap (λ (xs : List ℕ). 35 ∷ xs) (sym (take-append-drop n bs)), digits_found bs (eqb-false n 0 some), run_ends is_digit bs, out_of_range v bad)))
 
 -- ---- user's keywords
 
@@ -78,8 +77,8 @@ unfolding user_word
 user_word_fault at [] e h = fault_of at (33 ∷ []) (BadByte at) e h (inl (refl, inr (inr (inl (refl, tt)))))
 user_word_fault at (b ∷ bs) e h =
     chosen (is_upper b) (answered (Spelling kinds.UserWord (2 + prefix_len is_plain bs))) (refused (BadByte at)) (refused e) (IsFault at (33 ∷ b ∷ bs) e) h
-      (λ upper is. absurd (answered_not (Spelling kinds.UserWord (2 + prefix_len is_plain bs)) e is))
-      (λ lower is. fault_of at (33 ∷ b ∷ bs) (BadByte at) e is (inl (refl, inr (inr (inl (refl, lower))))))
+    (λ upper is. absurd (answered_not (Spelling kinds.UserWord (2 + prefix_len is_plain bs)) e is))
+    (λ lower is. fault_of at (33 ∷ b ∷ bs) (BadByte at) e is (inl (refl, inr (inr (inl (refl, lower))))))
 
 -- ---- texts, binaries, comments
 
@@ -89,7 +88,7 @@ text_fault at bs e (Err Cut) has h = fault_of at (39 ∷ bs) (OpenString at) e h
 text_fault at bs e (Err (Bad k)) has h =
     let s = text_faulty bs (Bad k) has in
     fault_of at (39 ∷ bs) (BadByte (at + 1 + k)) e h
-      (inr (1 + k, omega arith, inl (s.inside, s.byte, s.rest, ap (λ (xs : List ℕ). 39 ∷ xs) s.parts, s.passes, s.alien, omega (arith, s.place))))
+    (inr (1 + k, omega arith, inl (s.inside, s.byte, s.rest, ap (λ (xs : List ℕ). 39 ∷ xs) s.parts, s.passes, s.alien, omega (arith, s.place))))
 
 binary_fault : (at : ℕ) (bs : List ℕ) (e : LexErr) (r : Result ℕ Unclosed) → binary_end bs ≡ r → closed kinds.Binary at r ≡ refused e → IsFault at (34 ∷ bs) e
 binary_fault at bs e (Ok n) has h = absurd (answered_not (Spelling kinds.Binary (1 + n)) e h)
@@ -97,7 +96,7 @@ binary_fault at bs e (Err Cut) has h = fault_of at (34 ∷ bs) (OpenString at) e
 binary_fault at bs e (Err (Bad k)) has h =
     let s = binary_faulty bs (Bad k) has in
     fault_of at (34 ∷ bs) (BadByte (at + 1 + k)) e h
-      (inr (1 + k, omega arith, inr (inl (s.inside, s.byte, s.rest, ap (λ (xs : List ℕ). 34 ∷ xs) s.parts, s.passes, s.alien, omega (arith, s.place)))))
+    (inr (1 + k, omega arith, inr (inl (s.inside, s.byte, s.rest, ap (λ (xs : List ℕ). 34 ∷ xs) s.parts, s.passes, s.alien, omega (arith, s.place)))))
 
 commented_fault : (at : ℕ) (bs : List ℕ) (e : LexErr) (r : Result ℕ Unclosed) → comment_end bs ≡ r → commented at r ≡ refused e → IsFault at (47 ∷ 42 ∷ bs) e
 commented_fault at bs e (Ok n) has h = absurd (answered_not (Gap (2 + n)) e h)
@@ -105,15 +104,15 @@ commented_fault at bs e (Err Cut) has h = fault_of at (47 ∷ 42 ∷ bs) (OpenCo
 commented_fault at bs e (Err (Bad k)) has h =
     let s = comment_faulty bs (Bad k) has in
     fault_of at (47 ∷ 42 ∷ bs) (BadByte (at + 2 + k)) e h
-      (inr (2 + k, omega arith, inr (inr (s.inside, s.byte, s.rest, ap (λ (xs : List ℕ). 47 ∷ 42 ∷ xs) s.parts, s.passes, s.alien, omega (arith, s.place)))))
+    (inr (2 + k, omega arith, inr (inr (s.inside, s.byte, s.rest, ap (λ (xs : List ℕ). 47 ∷ 42 ∷ xs) s.parts, s.passes, s.alien, omega (arith, s.place)))))
 
 comment_fault : (at : ℕ) (bs : List ℕ) (e : LexErr) → comment at bs ≡ refused e → IsFault at (47 ∷ bs) e
 unfolding comment
 comment_fault at [] e h = fault_of at (47 ∷ []) (BadByte at) e h (inl (refl, inr (inr (inr (inl (refl, tt))))))
 comment_fault at (b ∷ bs) e h =
     chosen (eqb b 42) (commented at (comment_end bs)) (refused (BadByte at)) (refused e) (IsFault at (47 ∷ b ∷ bs) e) h
-      (λ star is. subst (λ (x : ℕ). IsFault at (47 ∷ x ∷ bs) e) (sym (eqb-true b 42 star)) (commented_fault at bs e (comment_end bs) refl is))
-      (λ other is. fault_of at (47 ∷ b ∷ bs) (BadByte at) e is (inl (refl, inr (inr (inr (inl (refl, other)))))))
+    (λ star is. subst (λ (x : ℕ). IsFault at (47 ∷ x ∷ bs) e) (sym (eqb-true b 42 star)) (commented_fault at bs e (comment_end bs) refl is))
+    (λ other is. fault_of at (47 ∷ b ∷ bs) (BadByte at) e is (inl (refl, inr (inr (inr (inl (refl, other)))))))
 
 -- ---- enumerations
 
@@ -133,8 +132,8 @@ unfolding enumeration
 enumeration_error at [] e h = refused_is (BadByte at) e h
 enumeration_error at (b ∷ bs) e h =
     chosen (is_upper b && eqb (get_or bs (prefix_len is_plain bs) 0) 46) (answered (Spelling kinds.Enumeration (3 + prefix_len is_plain bs))) (refused (BadByte at)) (refused e) (BadByte at ≡ e) h
-      (λ passed is. absurd (answered_not (Spelling kinds.Enumeration (3 + prefix_len is_plain bs)) e is))
-      (λ failed is. refused_is (BadByte at) e is)
+    (λ passed is. absurd (answered_not (Spelling kinds.Enumeration (3 + prefix_len is_plain bs)) e is))
+    (λ failed is. refused_is (BadByte at) e is)
 
 enumeration_fault : (at : ℕ) (bs : List ℕ) (e : LexErr) → enumeration at bs ≡ refused e → IsFault at (46 ∷ bs) e
 enumeration_fault at bs e h =
@@ -148,12 +147,12 @@ enumeration_none at (b ∷ bs) none = by_test (is_upper b && eqb (get_or bs (pre
     by_test : (t : Bool) → (is_upper b && eqb (get_or bs (prefix_len is_plain bs) 0) 46) ≡ t → cond t (answered (Spelling kinds.Enumeration (3 + prefix_len is_plain bs))) (refused (BadByte at)) ≡ refused (BadByte at)
     by_test false e = refl
     by_test true e =
-      let p = and_parts (is_upper b) (eqb (get_or bs (prefix_len is_plain bs) 0) 46) e in
-      let lt : prefix_len is_plain bs < length bs = point_within bs (prefix_len is_plain bs) p.1 in
-      let point : get_or bs (prefix_len is_plain bs) 0 ≡ 46 = eqb-true (get_or bs (prefix_len is_plain bs) 0) 46 p.1 in
-      let behind : drop (prefix_len is_plain bs) bs ≡ 46 ∷ drop (prefix_len is_plain bs + 1) bs = rw (← point) (drop_more bs (prefix_len is_plain bs) 0 lt) in
-      let parts : bs ≡ take (prefix_len is_plain bs) bs ++ 46 ∷ drop (prefix_len is_plain bs + 1) bs = sym (take-append-drop (prefix_len is_plain bs) bs) ∙ ap (λ (xs : List ℕ). take (prefix_len is_plain bs) bs ++ xs) behind in
-      absurd (none (b ∷ take (prefix_len is_plain bs) bs) (drop (prefix_len is_plain bs + 1) bs) (ap (λ (xs : List ℕ). b ∷ xs) parts) (p.0, run_is is_plain bs))
+        let p = and_parts (is_upper b) (eqb (get_or bs (prefix_len is_plain bs) 0) 46) e in
+        let lt : prefix_len is_plain bs < length bs = point_within bs (prefix_len is_plain bs) p.1 in
+        let point : get_or bs (prefix_len is_plain bs) 0 ≡ 46 = eqb-true (get_or bs (prefix_len is_plain bs) 0) 46 p.1 in
+        let behind : drop (prefix_len is_plain bs) bs ≡ 46 ∷ drop (prefix_len is_plain bs + 1) bs = rw (← point) (drop_more bs (prefix_len is_plain bs) 0 lt) in
+        let parts : bs ≡ take (prefix_len is_plain bs) bs ++ 46 ∷ drop (prefix_len is_plain bs + 1) bs = sym (take-append-drop (prefix_len is_plain bs) bs) ∙ ap (λ (xs : List ℕ). take (prefix_len is_plain bs) bs ++ xs) behind in
+        absurd (none (b ∷ take (prefix_len is_plain bs) bs) (drop (prefix_len is_plain bs + 1) bs) (ap (λ (xs : List ℕ). b ∷ xs) parts) (p.0, run_is is_plain bs))
 
 -- ---- bytes with which nothing begins
 
@@ -268,17 +267,17 @@ bad_at p q e = ap (λ (x : ℕ). refused (BadByte x)) e
 text_spoilt_again : (at n place : ℕ) (bytes : List ℕ) → place ≡ at + n → IsSpoilt (39 ∷ []) IsInside is_legal n bytes → front at bytes ≡ refused (BadByte place)
 text_spoilt_again at n place bytes is s =
     front_of at bytes (39 ∷ (s.0 ++ s.1 ∷ s.2)) (BadByte place) s.3
-      (front_text at (s.0 ++ s.1 ∷ s.2) ∙ ap (closed kinds.Text at) (text_spoilt s.0 s.1 s.2 s.4 s.5) ∙ bad_at (at + 1 + length s.0) place (omega (arith, is, s.6)))
+    (front_text at (s.0 ++ s.1 ∷ s.2) ∙ ap (closed kinds.Text at) (text_spoilt s.0 s.1 s.2 s.4 s.5) ∙ bad_at (at + 1 + length s.0) place (omega (arith, is, s.6)))
 
 binary_spoilt_again : (at n place : ℕ) (bytes : List ℕ) → place ≡ at + n → IsSpoilt (34 ∷ []) (Each is_hex) binary_byte n bytes → front at bytes ≡ refused (BadByte place)
 binary_spoilt_again at n place bytes is s =
     front_of at bytes (34 ∷ (s.0 ++ s.1 ∷ s.2)) (BadByte place) s.3
-      (front_binary at (s.0 ++ s.1 ∷ s.2) ∙ ap (closed kinds.Binary at) (binary_spoilt s.0 s.1 s.2 s.4 s.5) ∙ bad_at (at + 1 + length s.0) place (omega (arith, is, s.6)))
+    (front_binary at (s.0 ++ s.1 ∷ s.2) ∙ ap (closed kinds.Binary at) (binary_spoilt s.0 s.1 s.2 s.4 s.5) ∙ bad_at (at + 1 + length s.0) place (omega (arith, is, s.6)))
 
 comment_spoilt_again : (at n place : ℕ) (bytes : List ℕ) → place ≡ at + n → IsSpoilt (47 ∷ 42 ∷ []) IsCommentInside is_legal n bytes → front at bytes ≡ refused (BadByte place)
 comment_spoilt_again at n place bytes is s =
     front_of at bytes (47 ∷ 42 ∷ (s.0 ++ s.1 ∷ s.2)) (BadByte place) s.3
-      (front_comment at (s.0 ++ s.1 ∷ s.2) ∙ ap (commented at) (comment_spoilt s.0 s.1 s.2 s.4 s.5) ∙ bad_at (at + 2 + length s.0) place (omega (arith, is, s.6)))
+    (front_comment at (s.0 ++ s.1 ∷ s.2) ∙ ap (commented at) (comment_spoilt s.0 s.1 s.2 s.4 s.5) ∙ bad_at (at + 2 + length s.0) place (omega (arith, is, s.6)))
 
 range_failed : (v : ℕ) → (v ≡ 0) ⊎ (2147483647 < v) → (leb 1 v && leb v 2147483647) ≡ false
 range_failed v (inl none) = rw none refl
@@ -301,7 +300,7 @@ fault_refused at bytes (BadByte place) (inr (n, is, inr (inl s))) = binary_spoil
 fault_refused at bytes (BadByte place) (inr (n, is, inr (inr s))) = comment_spoilt_again at n place bytes is s
 fault_refused at bytes (BadName place) h =
     front_of at bytes (35 ∷ (h.1 ++ h.2)) (BadName place) h.3
-      (front_name at (h.1 ++ h.2) ∙ name_bad at (h.1 ++ h.2) h.1 (runs is_digit h.1 h.2 (digits_each h.1 h.4) h.5) (take_at h.1 h.2 (length h.1) refl) (digits_filled h.1 h.4) h.6 ∙ ap (λ (x : ℕ). refused (BadName x)) (sym h.0))
+    (front_name at (h.1 ++ h.2) ∙ name_bad at (h.1 ++ h.2) h.1 (runs is_digit h.1 h.2 (digits_each h.1 h.4) h.5) (take_at h.1 h.2 (length h.1) refl) (digits_filled h.1 h.4) h.6 ∙ ap (λ (x : ℕ). refused (BadName x)) (sym h.0))
 fault_refused at bytes (OpenString place) (is, inside, inl h) =
     front_of at bytes (39 ∷ inside) (OpenString place) h.0 (front_text at inside ∙ ap (closed kinds.Text at) (text_cut inside h.1) ∙ ap (λ (x : ℕ). refused (OpenString x)) (sym is))
 fault_refused at bytes (OpenString place) (is, inside, inr h) =
@@ -310,8 +309,8 @@ fault_refused at bytes (OpenComment place) h =
     front_of at bytes (47 ∷ 42 ∷ h.1) (OpenComment place) h.2 (front_comment at h.1 ∙ ap (commented at) (comment_cut h.1 h.3) ∙ ap (λ (x : ℕ). refused (OpenComment x)) (sym h.0))
 fault_refused at bytes (NumberTooLong place) (is, text, rest, parts, inl form, long) =
     front_of at bytes (text ++ rest) (NumberTooLong place) parts
-      (int_begins text rest at form.0 ∙ number_long at kinds.Int text rest (int_parts text rest form.0 form.1) long ∙ ap (λ (x : ℕ). refused (NumberTooLong x)) (sym is))
+    (int_begins text rest at form.0 ∙ number_long at kinds.Int text rest (int_parts text rest form.0 form.1) long ∙ ap (λ (x : ℕ). refused (NumberTooLong x)) (sym is))
 fault_refused at bytes (NumberTooLong place) (is, text, rest, parts, inr form, long) =
     front_of at bytes (text ++ rest) (NumberTooLong place) parts
-      (real_begins text rest at form.0 ∙ number_long at kinds.Real text rest (real_parts text rest form.0 form.1) long ∙ ap (λ (x : ℕ). refused (NumberTooLong x)) (sym is))
+    (real_begins text rest at form.0 ∙ number_long at kinds.Real text rest (real_parts text rest form.0 form.1) long ∙ ap (λ (x : ℕ). refused (NumberTooLong x)) (sym is))
 fault_refused at bytes NoMemory h = absurd h

@@ -144,7 +144,6 @@ closing = 42 ∷ 47 ∷ []
 abbrev pub ends_at : List ℕ → Bool
 ends_at bytes = starts_with nat_eq bytes (42 ∷ 47 ∷ [])
 
-
 ends_at-take : (b : ℕ) (bs inside : List ℕ) (m : ℕ) → ends_at (b ∷ bs) ≡ false → take m bs ≡ inside ++ closing → ends_at (b ∷ inside) ≡ false
 ends_at-take b bs [] m not_here e = ends_at_one b
   where

@@ -15,19 +15,19 @@ use Rattle.p21_lex.specs.Reading.{IsKeyword, IsInt, IsReal, IsGap, Spells, Reads
 use Rattle.p21_lex.proofs.Runs.{take_within}
 use Rattle.p21_lex.proofs.Numbers.{Found, TokenFound, answered}
 use Rattle.p21_lex.proofs.Fronts.{front_found}
-use Rattle.p21_lex.proofs.Loop.{unrolled, nothing_left}
+use Rattle.p21_lex.proofs.Loop.{unrolled, nothing_left, with_front-nil}
 use Rattle.p21_lex.proofs.Spelled.{spelled_front, gap_front}
 
-abbrev listed : List Token → Result (List Token) LexErr
+abbrev pub listed : List Token → Result (List Token) LexErr
 listed ts = Ok ts
 
-abbrev failed : LexErr → Result (List Token) LexErr
+abbrev pub failed : LexErr → Result (List Token) LexErr
 failed e = Err e
 
-listed_is : (ts us : List Token) → listed ts ≡ listed us → ts ≡ us
+pub listed_is : (ts us : List Token) → listed ts ≡ listed us → ts ≡ us
 listed_is ts us e = cc
 
-failed_not : (e : LexErr) (ts : List Token) → failed e ≡ listed ts → ⊥
+pub failed_not : (e : LexErr) (ts : List Token) → failed e ≡ listed ts → ⊥
 failed_not e ts h = cc
 
 -- ---- the tokens read the text
@@ -90,11 +90,11 @@ spelled_some Equals text h = filled_by 61 [] text h
 spelled_some Dollar text h = filled_by 36 [] text h
 spelled_some Star text h = filled_by 42 [] text h
 
-gap_some : (gap : List ℕ) → IsGap gap → 0 < length gap
+pub gap_some : (gap : List ℕ) → IsGap gap → 0 < length gap
 gap_some gap (inl h) = filled_by h.0 [] gap h.1
 gap_some gap (inr h) = filled_by 47 (42 ∷ (h.0 ++ 42 ∷ 47 ∷ [])) gap h.1
 
-piece_some : (bytes : List ℕ) (piece : Piece) → Found bytes piece → 0 < piece_len piece
+pub piece_some : (bytes : List ℕ) (piece : Piece) → Found bytes piece → 0 < piece_len piece
 piece_some bytes (Gap len) found = found.filled
 piece_some bytes (Spelling kind len) found = omega (arith, take_within len bytes found.within, spelled_some kind (take len bytes) found.spelled)
 
@@ -133,24 +133,24 @@ filled_front text rest some = omega (arith, length-append text rest)
 room_behind : (text rest : List ℕ) (steps less : ℕ) → 0 < length text → length (text ++ rest) ≤ steps → steps ≡ suc less → length rest ≤ less
 room_behind text rest steps less some enough is = omega (arith, length-append text rest)
 
-only_piece : (steps at : ℕ) (text rest : List ℕ) (piece : Piece) (us : List Token) → front at (text ++ rest) ≡ answered piece → piece_len piece ≡ length text → 0 < length text
-    → length (text ++ rest) ≤ steps → ((s : ℕ) → length rest ≤ s → tokens_in s (at + length text) rest ≡ listed us) → tokens_in steps at (text ++ rest) ≡ listed (piece_tokens at piece ++ us)
-only_piece steps at text rest piece us is len some enough more =
+pub only_piece : (steps at : ℕ) (text rest : List ℕ) (piece : Piece) (r : Result (List Token) LexErr) → front at (text ++ rest) ≡ answered piece → piece_len piece ≡ length text → 0 < length text
+    → length (text ++ rest) ≤ steps → ((s : ℕ) → length rest ≤ s → tokens_in s (at + length text) rest ≡ r) → tokens_in steps at (text ++ rest) ≡ with_front (piece_tokens at piece) r
+only_piece steps at text rest piece r is len some enough more =
     let u = unrolled steps at (text ++ rest) (filled_front text rest some) enough in
     let behind : drop (piece_len piece) (text ++ rest) ≡ rest = drop_at text rest (piece_len piece) (sym len) in
-    let next : tokens_in u.0 (at + piece_len piece) (drop (piece_len piece) (text ++ rest)) ≡ listed us = rw (behind, len) (more u.0 (room_behind text rest steps u.0 some enough u.1)) in
-    u.2 ∙ ap (λ (r : Result Piece LexErr). tokens_behind at r (λ n. tokens_in u.0 (at + n) (drop n (text ++ rest)))) is ∙ ap (with_front (piece_tokens at piece)) next
+    let next : tokens_in u.0 (at + piece_len piece) (drop (piece_len piece) (text ++ rest)) ≡ r = rw (behind, len) (more u.0 (room_behind text rest steps u.0 some enough u.1)) in
+    u.2 ∙ ap (λ (x : Result Piece LexErr). tokens_behind at x (λ n. tokens_in u.0 (at + n) (drop n (text ++ rest)))) is ∙ ap (with_front (piece_tokens at piece)) next
 
-only_gaps : (gaps : List (List ℕ)) (steps at : ℕ) (rest : List ℕ) (ts : List Token) → AllByRecursion IsGap gaps → length (concat gaps ++ rest) ≤ steps
-    → ((s : ℕ) → length rest ≤ s → tokens_in s (at + length (concat gaps)) rest ≡ listed ts) → tokens_in steps at (concat gaps ++ rest) ≡ listed ts
-only_gaps [] steps at rest ts here enough more = let same : at + 0 ≡ at = omega arith in subst (λ (n : ℕ). tokens_in steps n rest ≡ listed ts) same (more steps enough)
-only_gaps (gap ∷ gaps) steps at rest ts here enough more =
+pub only_gaps : (gaps : List (List ℕ)) (steps at : ℕ) (rest : List ℕ) (r : Result (List Token) LexErr) → AllByRecursion IsGap gaps → length (concat gaps ++ rest) ≤ steps
+    → ((s : ℕ) → length rest ≤ s → tokens_in s (at + length (concat gaps)) rest ≡ r) → tokens_in steps at (concat gaps ++ rest) ≡ r
+only_gaps [] steps at rest r here enough more = let same : at + 0 ≡ at = omega arith in subst (λ (n : ℕ). tokens_in steps n rest ≡ r) same (more steps enough)
+only_gaps (gap ∷ gaps) steps at rest r here enough more =
     let parts : (gap ++ concat gaps) ++ rest ≡ gap ++ (concat gaps ++ rest) = append_assoc gap (concat gaps) rest in
-    let behind : (s : ℕ) → length (concat gaps ++ rest) ≤ s → tokens_in s (at + length gap) (concat gaps ++ rest) ≡ listed ts = λ s room. only_gaps gaps s (at + length gap) rest ts here.1 room
+    let behind : (s : ℕ) → length (concat gaps ++ rest) ≤ s → tokens_in s (at + length gap) (concat gaps ++ rest) ≡ r = λ s room. only_gaps gaps s (at + length gap) rest r here.1 room
     (λ k wide. let place : at + length gap + length (concat gaps) ≡ at + length (gap ++ concat gaps) = omega (arith, length-append gap (concat gaps)) in rw place (more k wide)) in
-    rw parts (only_piece steps at gap (concat gaps ++ rest) (Gap (length gap)) ts (gap_front gap (concat gaps ++ rest) here.0 at) refl (gap_some gap here.0) (rw (← parts) enough) behind)
+    rw parts (only_piece steps at gap (concat gaps ++ rest) (Gap (length gap)) r (gap_front gap (concat gaps ++ rest) here.0 at) refl (gap_some gap here.0) (rw (← parts) enough) behind ∙ with_front-nil r)
 
-token_is : (t : Token) (start len : ℕ) → t.start ≡ start → t.end ≡ t.start + len → token_at start t.kind len ≡ t
+pub token_is : (t : Token) (start len : ℕ) → t.start ≡ start → t.end ≡ t.start + len → token_at start t.kind len ≡ t
 token_is t start len at_start at_end =
     let end : start + len ≡ t.end = omega arith in
     ap (λ (x : ℕ). record t { start = x; end = start + len }) (sym at_start) ∙ ap (λ (x : ℕ). record t { end = x }) end
@@ -158,7 +158,7 @@ token_is t start len at_start at_end =
 only_in : (ts : List Token) (steps at : ℕ) (bytes : List ℕ) → Reads at ts bytes → length bytes ≤ steps → tokens_in steps at bytes ≡ listed ts
 only_in [] steps at bytes h enough =
     let parts : bytes ≡ concat h.0 ++ [] = h.2 ∙ sym (append-nil (concat h.0)) in
-    rw parts (only_gaps h.0 steps at [] [] h.1 (rw (← parts) enough) (λ s room. nothing_left s (at + length (concat h.0)) [] refl))
+    rw parts (only_gaps h.0 steps at [] (listed []) h.1 (rw (← parts) enough) (λ s room. nothing_left s (at + length (concat h.0)) [] refl))
 only_in (t ∷ ts) steps at bytes h enough =
     let gaps = h.0 in
     let text = h.1 in
@@ -168,9 +168,9 @@ only_in (t ∷ ts) steps at bytes h enough =
     let token : token_at start t.kind (length text) ≡ t = token_is t start (length text) h.5 h.6 in
     let end : t.end ≡ start + length text = omega (arith, h.5, h.6) in
     let behind : (s : ℕ) → length rest ≤ s → tokens_in s (start + length text) rest ≡ listed ts = λ s room. rw (← end) (only_in ts s t.end rest h.9 room) in
-    let here : (s : ℕ) → length (text ++ rest) ≤ s → tokens_in s start (text ++ rest) ≡ listed (token_at start t.kind (length text) ∷ ts) = λ s room. only_piece s start text rest (Spelling t.kind (length text)) ts (spelled_front t.kind text rest h.7 h.8 start) refl (spelled_some t.kind text h.7) room behind in
+    let here : (s : ℕ) → length (text ++ rest) ≤ s → tokens_in s start (text ++ rest) ≡ listed (token_at start t.kind (length text) ∷ ts) = λ s room. only_piece s start text rest (Spelling t.kind (length text)) (listed ts) (spelled_front t.kind text rest h.7 h.8 start) refl (spelled_some t.kind text h.7) room behind in
     let all : (s : ℕ) → length (text ++ rest) ≤ s → tokens_in s start (text ++ rest) ≡ listed (t ∷ ts) = λ s room. here s room ∙ ap (λ (x : Token). listed (x ∷ ts)) token in
-    rw parts (only_gaps gaps steps at (text ++ rest) (t ∷ ts) h.3 (rw (← parts) enough) all)
+    rw parts (only_gaps gaps steps at (text ++ rest) (listed (t ∷ ts)) h.3 (rw (← parts) enough) all)
 
 -- What reads a text is its tokens.
 pub only : (bytes : List ℕ) (ts : List Token) → Reads 0 ts bytes → tokens_of bytes ≡ listed ts

@@ -10,7 +10,7 @@ use Rattle.p21_lex.specs.declared.piece.Piece.TheVariants.{Gap, Spelling}
 use Rattle.p21_lex.specs.Class.{is_digit, is_upper, is_plain, is_word, is_hex, is_sign, is_blank, is_legal, Each, NotFirst}
 use Rattle.p21_lex.specs.Number.{name_value}
 
--- a capital letter, and then bytes of a class
+-- a capital letter, and then bytes of a class (ISO 10303-21: keywords)
 abbrev pub IsKeyword : (ℕ → Bool) → List ℕ → Type 0
 IsKeyword class [] = ⊥
 IsKeyword class (b ∷ bs) = IsTrue (is_upper b) × Each class bs
@@ -20,7 +20,7 @@ abbrev pub IsDigits : List ℕ → Type 0
 IsDigits [] = ⊥
 IsDigits (b ∷ bs) = Each is_digit (b ∷ bs)
 
--- digits with or without a sign
+-- digits with or without a sign (ISO 10303-21: integer)
 abbrev pub IsInt : List ℕ → Type 0
 IsInt [] = ⊥
 IsInt (b ∷ bs) = IsDigits (b ∷ bs) ⊎ (IsTrue (is_sign b) × IsDigits bs)
@@ -30,7 +30,7 @@ abbrev pub IsExponent : List ℕ → Type 0
 IsExponent [] = Unit {0}
 IsExponent (b ∷ bs) = (b ≡ 69) × IsInt bs
 
--- an integer, a point, digits and an exponent
+-- an integer, a point, digits and an exponent (ISO 10303-21: real)
 pub record IsReal (text : List ℕ) : Type 0 where
   pub whole : List ℕ
   pub fraction : List ℕ
@@ -40,11 +40,11 @@ pub record IsReal (text : List ℕ) : Type 0 where
   pub is_fraction : Each is_digit fraction
   pub is_exponent : IsExponent exponent
 
--- at most 38 digits, those of a fraction and an exponent among them
+-- at most 38 digits, those of a fraction and an exponent among them (this profile)
 abbrev pub IsShort : List ℕ → Type 0
 IsShort text = count_by is_digit text ≤ 38
 
--- the inside of a text: an apostrophe stands twice
+-- the inside of a text: an apostrophe stands twice (ISO 10303-21: string)
 abbrev pub IsInside : List ℕ → Type 0
 IsInside [] = Unit {0}
 IsInside (b ∷ []) = ((b == 39) ≡ false) × IsTrue (is_legal b)
@@ -54,7 +54,7 @@ IsInside (b ∷ c ∷ bs) = ((b ≡ 39) × (c ≡ 39) × IsInside bs) ⊎ (((b =
 abbrev pub IsBetween : ℕ → (List ℕ → Type 0) → List ℕ → Type 0
 IsBetween byte Inside text = (inside : List ℕ) × (text ≡ byte ∷ (inside ++ byte ∷ [])) × Inside inside
 
--- What the spelling of a kind is, ranges included.
+-- What the spelling of a kind is (ISO 10303-21: tokens), with this profile's ranges: a name's value is 1 to 2,147,483,647, a number has at most 38 digits.
 abbrev pub Spells : TokenKind → List ℕ → Type 0
 Spells Word text = IsKeyword is_word text
 Spells UserWord text = (word : List ℕ) × (text ≡ 33 ∷ word) × IsKeyword is_plain word
@@ -98,7 +98,7 @@ abbrev pub has_end : List ℕ → Bool
 has_end [] = false
 has_end (b ∷ bs) = starts_with nat_eq (b ∷ bs) (42 ∷ 47 ∷ []) || has_end bs
 
--- the inside of a comment: legal bytes with no closing mark
+-- the inside of a comment: legal bytes with no closing mark (ISO 10303-21: token separators)
 abbrev pub IsCommentInside : List ℕ → Type 0
 IsCommentInside inside = Each is_legal inside × (has_end inside ≡ false)
 

@@ -1,5 +1,5 @@
 -- Why a text has no tokens: tokens read it up to a place, and what stands there is no token and no gap, for one cause. Nothing here scans.
-use Rattle.std.specs.Prelude.{◌≡◌, ℕ, ◌+◌, ◌<◌, Bool, true, false, ◌||◌, ◌==◌, ◌⊎◌, List, [], ◌∷◌, ◌++◌, length, count_by, IsTrue}
+use Rattle.std.specs.Prelude.{◌≡◌, ℕ, ◌+◌, ◌<◌, Bool, false, ◌||◌, ◌==◌, ◌⊎◌, List, [], ◌∷◌, ◌++◌, length, count_by, IsTrue}
 use Rattle.std.specs.List.{concat, list_any, AllByRecursion}
 use Rattle.std.specs.Str.Parse.{digits_value}
 use Rattle.p21_lex.specs.declared.error.LexErr.{LexErr}
@@ -42,9 +42,9 @@ abbrev pub IsFault : ℕ → List ℕ → LexErr → Type 0
 IsFault at bytes (BadByte place) =
     ((place ≡ at) × IsNothing bytes)
     ⊎ ((n : ℕ) × (place ≡ at + n)
-      × (IsSpoilt (39 ∷ []) IsInside is_legal n bytes
-        ⊎ (IsSpoilt (34 ∷ []) (Each is_hex) (λ b. is_hex b || (b == 34)) n bytes
-        ⊎ IsSpoilt (47 ∷ 42 ∷ []) IsCommentInside is_legal n bytes)))
+    × (IsSpoilt (39 ∷ []) IsInside is_legal n bytes
+    ⊎ (IsSpoilt (34 ∷ []) (Each is_hex) (λ b. is_hex b || (b == 34)) n bytes
+    ⊎ IsSpoilt (47 ∷ 42 ∷ []) IsCommentInside is_legal n bytes)))
 IsFault at bytes (BadName place) =
     (place ≡ at) × (digits : List ℕ) × (rest : List ℕ) × (bytes ≡ 35 ∷ (digits ++ rest)) × IsDigits digits × NotFirst is_digit rest
     × ((digits_value 10 digits ≡ 0) ⊎ (2147483647 < digits_value 10 digits))
@@ -56,6 +56,10 @@ IsFault at bytes (NumberTooLong place) =
     × ((IsInt text × Stops kinds.Int text rest) ⊎ (IsReal text × Stops kinds.Real text rest)) × (38 < count_by is_digit text)
 IsFault at bytes NoMemory = ⊥
 
--- Tokens read the text up to a place, and there stands this fault.
+-- Tokens read the bytes, of which the first lies at a place, up to another place, and there stands this fault.
+abbrev pub IsRefusedFrom : ℕ → List ℕ → LexErr → Type 0
+IsRefusedFrom at bytes e = (ts : List Token) × (place : ℕ) × (rest : List ℕ) × ReadsUpTo at ts bytes place rest × IsFault place rest e
+
+-- The same of a whole text.
 abbrev pub IsRefused : List ℕ → LexErr → Type 0
-IsRefused bytes e = (ts : List Token) × (place : ℕ) × (rest : List ℕ) × ReadsUpTo 0 ts bytes place rest × IsFault place rest e
+IsRefused bytes e = IsRefusedFrom 0 bytes e

@@ -1,9 +1,11 @@
 //! The tokens of a whole text.
 
-ghost use Rattle.std.specs.Prelude.{◌≡◌, ◌≢◌, ◌↔◌, ℕ, ◌≤◌, ◌+◌, ◌++◌, List, [], length, Ok, Err, OnOk, IfOk, IfErr, All, AllPairs};
+ghost use Rattle.std.specs.Prelude.{◌≡◌, ◌≢◌, ◌↔◌, ◌⊎◌, ℕ, ◌≤◌, ◌+◌, ◌++◌, List, [], length, Ok, Err, OnOk, IfOk, IfErr, All, AllPairs};
 ghost use Rattle.p21_lex.specs.Front.{piece_len};
 ghost use Rattle.p21_lex.specs.Reading.{Reads, IsToken, Spells, Stops};
+ghost use Rattle.p21_lex.specs.Refusal.{IsRefused};
 ghost use Rattle.p21_lex.specs.Tokens.{Gives, piece_tokens, tokens_of};
+ghost use Rattle.p21_lex.specs.declared.error.LexErr.{LexErr};
 ghost use Rattle.p21_lex.specs.declared.token.Token.{Token};
 ghost use Rattle.p21_lex.specs.declared.token.TokenKind.{TokenKind};
 
@@ -11,17 +13,6 @@ use crate::error::LexErr;
 use crate::piece::{Piece, front};
 use crate::token::Token;
 use std::alloc::Global;
-
-impl Piece {
-    fn len(self) -> usize
-        ensures { result ≡ piece_len self }
-    {
-        match self {
-            Piece::Gap(len) => len,
-            Piece::Spelling(_, len) => len,
-        }
-    }
-}
 
 /// Adds the token of a piece that lies at a place; a gap adds none.
 fn add(found: &mut Vec<Token>, at: u32, piece: Piece) -> Result<(), LexErr>
@@ -64,7 +55,10 @@ pub fn tokens(alloc: Global, bytes: &[u8]) -> Result<Vec<Token>, LexErr>
     ensures found { IfOk result (λ v. Reads 0 v.items bytes.now) }
     // What reads the text is found, unless memory runs out.
     ensures only { (ts : List Token) → Reads 0 ts bytes.now → Gives (λ v. v.items) result (Ok ts) }
-    // Which error it is.
+    // What is refused has this fault, and what has a fault is refused for it, unless memory runs out.
+    ensures refused { IfErr result (λ e. (e ≡ LexErr.NoMemory) ⊎ IsRefused bytes.now e) }
+    ensures refuses { (e : LexErr) → IsRefused bytes.now e → Gives (λ v. v.items) result (Err e) }
+    // The same as a function of the bytes.
     ensures exact { Gives (λ v. v.items) result (tokens_of bytes.now) }
 
     // Where the tokens lie.
@@ -82,11 +76,13 @@ pub fn tokens_fit(bytes: &[u8], tokens: &[Token])
     ensures ordered { AllPairs (λ t u. t.end ≤ u.start) tokens.now }
 {}
 
-/// The laws of reading: a token list is that of a text exactly where it reads the text, no text is refused for want of
-/// memory, and where a spelling stops no longer front of the text spells a token. It does nothing.
+/// The laws of reading: a token list is that of a text exactly where it reads the text, a text is refused exactly where
+/// tokens read it up to a fault, never for want of memory, and where a spelling stops no longer front of the text spells
+/// a token. It does nothing.
 pub fn reading_laws()
     ensures same { (bytes : List ℕ) (ts : List Token) → (tokens_of bytes ≡ Ok ts) ↔ Reads 0 ts bytes }
     ensures longest { (kind other : TokenKind) (text more rest : List ℕ)
         → Spells kind text → Stops kind text (more ++ rest) → Spells other (text ++ more) → more ≡ [] }
+    ensures refused { (bytes : List ℕ) (e : LexErr) → (tokens_of bytes ≡ Err e) ↔ IsRefused bytes e }
     ensures memory { (bytes : List ℕ) → tokens_of bytes ≢ Err LexErr.NoMemory }
 {}

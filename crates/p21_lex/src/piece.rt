@@ -1,10 +1,12 @@
 //! What stands at the front of a text.
 
-ghost use Rattle.std.specs.Prelude.{◌≡◌, ◌↔◌, ℕ, ◌≤◌, ◌<◌, ◌+◌, ◌++◌, List, length, IfOk, IsTrue, Ok, count_by};
+ghost use Rattle.std.specs.Prelude.{◌≡◌, ◌↔◌, ℕ, ◌≤◌, ◌<◌, ◌+◌, ◌++◌, List, length, IfOk, IfErr, IsTrue, Ok, Err, count_by};
 ghost use Rattle.p21_lex.specs.Class.{is_digit};
 ghost use Rattle.p21_lex.specs.Front.{number, name, user_word, enumeration, closed, comment, mark, marked, front, piece_len};
 ghost use Rattle.p21_lex.specs.Reading.{IsPiece, Spells, Stops};
+ghost use Rattle.p21_lex.specs.Refusal.{IsFault};
 ghost use Rattle.p21_lex.specs.Scan.{text_end, binary_end, IsBelow};
+ghost use Rattle.p21_lex.specs.declared.error.LexErr.{LexErr};
 ghost use Rattle.p21_lex.specs.declared.token.TokenKind.{TokenKind};
 
 use crate::class::{digits_len, is_digit, is_upper, plain_len, word_len};
@@ -20,6 +22,16 @@ pub enum Piece {
     Gap(usize),
     /// A token of a kind.
     Spelling(TokenKind, usize),
+}
+
+impl Piece {
+    pub fn len(self) -> usize
+        ensures { result ≡ piece_len self }
+    {
+        match self {
+            Piece::Gap(len) | Piece::Spelling(_, len) => len,
+        }
+    }
 }
 
 /// The digits that one number may have in all its parts.
@@ -204,7 +216,10 @@ pub fn front(at: u32, bytes: &[u8]) -> Result<Piece, LexErr>
     // What has the form, and does not go on, is found.
     ensures only { (kind : TokenKind) (text rest : List ℕ)
         → bytes.now ≡ text ++ rest → Spells kind text → Stops kind text rest → result ≡ Ok (Piece.Spelling kind (length text)) }
-    // Which error it is.
+    // What is refused has this fault, and what has a fault is refused for it.
+    ensures refused { IfErr result (IsFault at bytes.now) }
+    ensures refuses { (e : LexErr) → IsFault at bytes.now e → result ≡ Err e }
+    // The same as a function of the bytes.
     ensures exact { result ≡ front at bytes.now }
 
     ensures within { IfOk result (λ p. piece_len p ≤ length bytes.now) }

@@ -1,4 +1,5 @@
--- What stands at the front of symbols in a plain file, and the symbols behind it; None where no such thing stands there.
+-- What stands at the front of symbols in a plain file, and the symbols behind it; None where no such thing stands there. These are the exact
+-- answers of the functions that read, which no public clause names: what a text is, Spell and PlainFile say.
 use Rattle.std.specs.Prelude.{◌≡◌, ℕ, zero, suc, ◌+◌, ◌<◌, Bool, true, false, ◌==◌, if◌then◌else◌, List, [], ◌∷◌, length, Option, Some, None, Result, Ok, Err, codes}
 use Rattle.std.specs.Str.{bytes_eq}
 use Rattle.std.specs.List.{AllByRecursion}
@@ -11,6 +12,7 @@ use Rattle.p21_parse.specs.Tree.{Tree, one, reference, list, Trees, none, first,
 use Rattle.p21_parse.specs.Symbol.{Symbol, value, name, keyword, dashed, opening, closing, comma, semicolon, equals, is_user}
 use Rattle.p21_parse.specs.PlainFile.{is_plain_kind}
 
+-- a step, and then another that may fail too
 infixl 10 ◌>>=◌
 abbrev pub ◌>>=◌ : {A B : Type 0} → Option A → (A → Option B) → Option B
 None >>= f = None
@@ -21,6 +23,7 @@ abbrev pub Fails : {Y : Type 0} → ReadErr → Option Y → Type 0
 Fails NotBuilt said = said ≡ None
 Fails NoMemory said = Unit {0}
 
+-- the same of an answer that may be a value
 abbrev pub Gives : {X Y : Type 0} → (X → Y) → Result X ReadErr → Option Y → Type 0
 Gives view (Ok x) said = said ≡ Some (view x)
 Gives view (Err e) said = Fails e said
@@ -57,6 +60,7 @@ value_at (value kind text) = if is_plain_kind kind then Some (one kind text) els
 value_at (name number) = Some (reference number)
 value_at _ = None
 
+-- whether a further parameter begins
 abbrev pub begins_more : List Symbol → Bool
 begins_more (comma ∷ ss) = true
 begins_more _ = false
@@ -66,6 +70,7 @@ abbrev pub more_at : {X : Type 0} → (List Symbol → Option X) → List Symbol
 more_at item (comma ∷ ss) = item ss
 more_at item _ = None
 
+-- behind one mark
 abbrev pub after_closing : List Symbol → Option (List Symbol)
 after_closing (closing ∷ ss) = Some ss
 after_closing _ = None
@@ -107,6 +112,7 @@ abbrev pub after_opening : List Symbol → Option (List Symbol)
 after_opening (opening ∷ ss) = Some ss
 after_opening _ = None
 
+-- a keyword and its parameters
 unfoldable pub part_at : List Symbol → Option (PartTree × List Symbol)
 part_at ss = do
   word ← keyword_at ss
@@ -114,20 +120,24 @@ part_at ss = do
   x ← list_at (param_at 1) inner
   Some (record { keyword = word.0; parameters = x.0 }, x.1)
 
+-- whether an entry of the header begins: its second symbol is an opening parenthesis
 abbrev pub begins_entry : List Symbol → Bool
 begins_entry (s ∷ opening ∷ ss) = true
 begins_entry _ = false
 
+-- a part and its semicolon
 unfoldable pub entry_at : List Symbol → Option (PartTree × List Symbol)
 entry_at ss = do
   part ← part_at ss
   rest ← after_semicolon part.1
   Some (part.0, rest)
 
+-- whether an instance begins
 abbrev pub begins_instance : List Symbol → Bool
 begins_instance (name number ∷ ss) = true
 begins_instance _ = false
 
+-- a name's number
 abbrev pub name_at : List Symbol → Option (ℕ × List Symbol)
 name_at (name number ∷ ss) = Some (number, ss)
 name_at _ = None
@@ -136,6 +146,7 @@ abbrev pub after_equals : List Symbol → Option (List Symbol)
 after_equals (equals ∷ ss) = Some ss
 after_equals _ = None
 
+-- a simple instance
 unfoldable pub instance_at : List Symbol → Option (InstanceTree × List Symbol)
 instance_at ss = do
   number ← name_at ss

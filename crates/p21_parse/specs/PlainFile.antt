@@ -77,6 +77,7 @@ IsOnePart (p ∷ q ∷ ps) = ⊥
 abbrev pub IsPlainInstance : InstanceTree → Type 0
 IsPlainInstance i = (i.complex ≡ false) × IsOnePart i.parts
 
+-- the number of an instance's name
 abbrev pub number_of : InstanceTree → ℕ
 number_of i = i.number
 

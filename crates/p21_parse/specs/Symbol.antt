@@ -27,6 +27,7 @@ inside text = slice_range text 1 (length text - 1)
 abbrev pub has_hyphen : List ℕ → Bool
 has_hyphen text = list_any (λ b. b == 45) text
 
+-- the symbol of a word
 abbrev pub word : List ℕ → Symbol
 word text = if has_hyphen text then dashed text else keyword text
 

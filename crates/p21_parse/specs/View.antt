@@ -33,12 +33,15 @@ abbrev mutual
 abbrev pub trees_of : ParamList → Trees
 trees_of ps = trees (map tree_of ps.params.items)
 
+-- the tree of a part
 abbrev pub part_of : Part → PartTree
 part_of part = record { keyword = part.keyword; parameters = trees_of part.parameters }
 
+-- the tree of an instance
 abbrev pub instance_of : Instance → InstanceTree
 instance_of instance = record { number = instance.number; complex = instance.complex; parts = map part_of instance.parts }
 
+-- the tree of an exchange
 abbrev pub exchange_of : Exchange → ExchangeTree
 exchange_of exchange = record { head = map part_of exchange.head; items = map instance_of exchange.items }
 

@@ -140,6 +140,7 @@ fn lists_of_parameters_grow_and_shrink(rt: HostRuntime) -> Result<(), Fail> {
     params.push(Param::Reference(7))?;
     params.push(Param::Derived)?;
     assert_eq!(rt; params.len(), 2);
+    assert!(rt; matches!(params.at(1), Param::Derived));
     assert!(rt; matches!(params.pop(), Some(Param::Derived)));
     assert!(rt; matches!(params.pop(), Some(Param::Reference(7))));
     assert!(rt; params.pop().is_none());

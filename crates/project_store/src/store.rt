@@ -66,15 +66,16 @@ impl Store {
     }
 
     /// Each used reference of an entity in the store names an entity that is in it and of the kind that the table of classes demands.
-    pub fn is_resolved(&self)
+    pub fn resolved(&self)
         ensures { IsResolved self.now }
     {
         let _ = &self.index;
     }
 
-    /// How many entities there are.
+    /// How many entities there are. Their numbers are distinct.
     pub fn len(&self) -> usize
-        ensures { result ≡ length self.now }
+        ensures len { result ≡ length self.now }
+        ensures distinct { IsDistinct nat_eq (numbers_of self.now) }
     {
         self.index.len()
     }

@@ -5,7 +5,7 @@ ghost use Rattle.entity_types.specs.declared.field.Field.TheVariants.{Ref};
 use super::*;
 use entity_types::{Class, Entity, EntityList, Field, FieldList};
 use nc_base::{NoMemory, Number, NumberList};
-use std::alloc::Global;
+use std::alloc::{AllocError, Global};
 use std::test::Fail;
 
 fn opaque(alloc: Global, number: Number) -> Entity
@@ -46,15 +46,24 @@ fn one(alloc: Global, number: Number, class: Class, to: Number) -> Result<Entity
 }
 
 // The third stands first in the file.
+fn three(alloc: Global, a: Entity, b: Entity, c: Entity) -> Result<Vec<Entity>, AllocError>
+    ensures { IfOk result (λ list. list.items ≡ c ∷ a ∷ b ∷ []) }
+{
+    let mut list = Vec::with_capacity(alloc, 3)?;
+    list.push(c)?;
+    list.push(a)?;
+    list.push(b)?;
+    Ok(list)
+}
+
 fn build(alloc: Global, a: Entity, b: Entity, c: Entity) -> Result<Store, StoreErr>
     requires first { a.number < b.number }
     requires second { b.number < c.number }
 {
-    let mut entities = Vec::with_capacity(alloc, 3).map_err(NoMemory::from)?;
-    entities.push(c).map_err(NoMemory::from)?;
-    entities.push(a).map_err(NoMemory::from)?;
-    entities.push(b).map_err(NoMemory::from)?;
-    Store::build(alloc, entities)
+    match three(alloc, a, b, c) {
+        Ok(entities) => Store::build(alloc, entities),
+        Err(_) => Err(StoreErr::NoMemory),
+    }
 }
 
 #[test]

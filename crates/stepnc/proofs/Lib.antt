@@ -1,2 +1,7 @@
 pub mod Digits
 pub mod Beginnings
+pub mod Tests
+pub mod Typing
+pub mod SameEntity
+pub mod Holding
+pub mod Stepping

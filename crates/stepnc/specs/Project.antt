@@ -1,5 +1,5 @@
 -- The project that an exchange holds, at this stage: a main workplan of drilled holes.
-use Rattle.std.specs.Prelude.{◌≡◌, ℕ, ◌≤◌, ◌<◌, ◌⊎◌, Bool, true, false, nat_eq, List, [], ◌∷◌, length, map, Option, Some, None, option_map, option_and_then, is_ok, Result, Ok, Err}
+use Rattle.std.specs.Prelude.{◌≡◌, ℕ, ◌≤◌, ◌<◌, ◌⊎◌, Bool, true, false, ◌&&◌, nat_eq, List, [], ◌∷◌, length, map, Option, Some, None, option_map, option_and_then, is_ok, Result, Ok, Err}
 use Rattle.std.specs.List.{list_all, IsDistinct}
 use Rattle.std.specs.Result.{result_ok}
 use Rattle.path_blocks.specs.declared.block.Block.{Block}
@@ -51,6 +51,14 @@ main_number _ = None
 abbrev pub plan_steps : List Entity → ℕ → Option (List ℕ)
 plan_steps entities main = option_and_then (λ plan. elements_of (field_of plan 2) (field_of plan 3)) (entity_at entities main)
 
+-- the number of the main workplan, and its elements
+abbrev pub main_plan : List Entity → Option (ℕ × List ℕ)
+main_plan entities = option_and_then (λ main. option_map (λ steps. (main, steps)) (plan_steps entities main)) (main_number (projects_of entities))
+
+-- n is a workingstep that drills a hole, and its definition has no fault
+abbrev pub is_runnable : List Entity → ℕ → Bool
+is_runnable entities n = is_drilled_hole (entity_at entities) n && is_ok (def_of (entity_at entities) n)
+
 -- the exchange holds the project, and the first stage can run it
 pub record IsProject (x : ExchangeTree) (p : Project) : Type 0 where
   -- only the known keywords, and only short numbers
@@ -58,14 +66,11 @@ pub record IsProject (x : ExchangeTree) (p : Project) : Type 0 where
   -- each instance is an entity, and together they are a store
   pub typed : all_typed x.items ≡ Some (map entity_of p.entities)
   pub built : fault_of p.entities ≡ None
-  -- the main workplan has no channel, and its elements are distinct workingsteps, each of which drills a hole (with the
-  -- known keywords every workingstep does)
-  pub main : main_number (projects_of p.entities) ≡ Some p.main
-  pub steps : plan_steps p.entities p.main ≡ Some p.steps
+  -- the main workplan names no channel, and its elements are distinct workingsteps, each of which drills a hole (with the
+  -- known keywords every workingstep does) and has no fault
+  pub planned : main_plan p.entities ≡ Some (p.main, p.steps)
   pub distinct : IsDistinct nat_eq p.steps
-  pub drilled : list_all (is_drilled_hole (entity_at p.entities)) p.steps ≡ true
-  -- none of them has a fault
-  pub defined : list_all (λ n. is_ok (def_of (entity_at p.entities) n)) p.steps ≡ true
+  pub defined : list_all (is_runnable p.entities) p.steps ≡ true
 
 -- the bytes are a file of at most so many bytes that spells an exchange with the project
 pub record Holds (bytes : List ℕ) (p : Project) : Type 0 where

@@ -2,6 +2,7 @@
 #![tactic(auto)]
 
 mod narrow;
+mod project;
 mod words;
 
 fn main() {}

@@ -87,7 +87,8 @@ fn is_narrow(param: &Param) -> bool
     ensures { result ≡ is_narrow (tree_of param.now) }
 {
     match param {
-        Param::List(params) | Param::Typed(_, params) => are_narrow_values(params.as_slice()),
+        Param::List(params) => are_narrow_values(params.as_slice()),
+        Param::Typed(_, params) => are_narrow_values(params.as_slice()),
         Param::Int(_)
         | Param::Real(_)
         | Param::Text(_)

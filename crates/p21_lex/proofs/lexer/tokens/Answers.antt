@@ -1,4 +1,5 @@
 use Rattle.p21_lex.proofs.Places.{is_found, is_only, is_inside, is_ordered}
+use Rattle.p21_lex.proofs.Refusals.{call_refused, call_refuses}
 use Rattle.p21_lex.proofs.lexer.tokens.Goals as goal
 
 pub returns-clause-found : goal.returns-clause-found
@@ -12,3 +13,9 @@ returns-clause-inside c = is_inside c.args.bytes.now c.all.result c.all.ensures
 
 pub returns-clause-ordered : goal.returns-clause-ordered
 returns-clause-ordered c = is_ordered c.args.bytes.now c.all.result c.all.ensures
+
+pub returns-clause-refused : goal.returns-clause-refused
+returns-clause-refused c = call_refused c.args.bytes.now c.all.result c.all.ensures
+
+pub returns-clause-refuses : goal.returns-clause-refuses
+returns-clause-refuses c = call_refuses c.args.bytes.now c.all.result c.all.ensures
