@@ -158,3 +158,31 @@ max_is a b m e = elim (tested (nat_le a b)) [ | inl t ↦ inr (grind (arith, nat
 pub greatest : (a b c m n : ℕ) → m ≡ max a b → n ≡ max m c → (a ≤ n) × (b ≤ n) × (c ≤ n) × ((n ≡ a) ⊎ ((n ≡ b) ⊎ (n ≡ c)))
 greatest a b c m n p q =
     (omega arith, omega arith, omega arith, elim (max_is m c n q) [ | inl e ↦ elim (max_is a b m p) [ | inl f ↦ inl (e ∙ f) | inr f ↦ inr (inl (e ∙ f)) ] | inr e ↦ inr (inr e) ])
+
+begins_short : (ws : List (List ℕ)) (forms : List Form) → begins ws forms ≡ true → length ws ≤ length forms
+begins_short [] forms e = omega arith
+begins_short (w ∷ ws) [] e = absurd (cc)
+begins_short (w ∷ ws) (form ∷ forms) e = let le = begins_short ws forms (both (form w) (begins ws forms) e).1 in omega arith
+
+one_of : (a b c : Bool) → (a || (b || (c || false))) ≡ true → (a ≡ true) ⊎ ((b ≡ true) ⊎ (c ≡ true))
+one_of true b c e = inl refl
+one_of false true c e = inr (inl refl)
+one_of false false true e = inr (inr refl)
+one_of false false false e = absurd (cc)
+
+take_length : (ws : List (List ℕ)) (i : ℕ) → i ≤ length ws → length (take i ws) ≡ i
+take_length ws zero le = refl
+take_length [] (suc i) le = absurd (omega arith)
+take_length (w ∷ ws) (suc i) le = ap suc (take_length ws i (omega arith))
+
+-- no line has more than five words
+pub bad_place : (ws : List (List ℕ)) (i : ℕ) → AreBadAt ws i → i ≤ 5
+bad_place ws i bad =
+    let long = take_length ws i bad.within in
+    elim (one_of (begins (take i ws) replay_line) (begins (take i ws) help_line) (begins (take i ws) version_line) bad.begun) [
+      | inl e ↦ (let le = begins_short (take i ws) replay_line e in omega arith)
+      | inr later ↦ elim later [
+        | inl e ↦ (let le = begins_short (take i ws) help_line e in omega arith)
+        | inr e ↦ (let le = begins_short (take i ws) version_line e in omega arith)
+      ]
+    ]

@@ -1,8 +1,12 @@
 -- What an exchange holds, and what it doesn't.
-use Rattle.std.proofs.Common.{◌≡◌, ℕ, Bool, true, false, List, [], ◌∷◌, ◌++◌, map, Option, Some, None, Result, Ok, Err, refl, sym, ap, subst, ◌∙◌}
+use Rattle.std.proofs.Common.{◌≡◌, ℕ, ◌≤◌, length, Bool, true, false, List, [], ◌∷◌, ◌++◌, map, Option, Some, None, Result, Ok, Err, refl, sym, ap, subst, ◌∙◌}
 use Rattle.std.specs.Prelude.{nat_eq}
 use Rattle.std.specs.List.{list_all, IsDistinct}
+use Rattle.p21_parse.specs.declared.error.ReadErr.{ReadErr}
+use Rattle.p21_parse.specs.declared.error.ReadErr.TheVariants as reads
 use Rattle.p21_parse.specs.Tree.{ExchangeTree}
+use Rattle.p21_parse.specs.PlainFile.{IsPlainFile}
+use Rattle.p21_parse.specs.View.{Answers}
 use Rattle.entity_types.specs.declared.entity.Entity.{Entity}
 use Rattle.entity_read.specs.Typed.{EntityTree, entity_of}
 use Rattle.project_store.specs.declared.error.StoreErr.{StoreErr}
@@ -10,10 +14,11 @@ use Rattle.project_store.specs.declared.error.StoreErr.TheVariants as stores
 use Rattle.project_store.specs.Build.{fault_of, Builds}
 use Rattle.stepnc.specs.declared.project.ProjectErr.{ProjectErr}
 use Rattle.stepnc.specs.declared.project.ProjectErr.TheVariants.{NotBuilt, NoMemory}
-use Rattle.stepnc.specs.Errors.{from_store}
+use Rattle.stepnc.specs.declared.project.Project.{Project as Held}
+use Rattle.stepnc.specs.Errors.{from_store, from_read}
 use Rattle.stepnc.specs.Narrow.{can_run}
 use Rattle.stepnc.specs.Project.{Project, IsProject, all_typed, main_plan, is_runnable}
-use Rattle.stepnc.specs.Projects.{Reads, AreSteps}
+use Rattle.stepnc.specs.Projects.{Reads, ReadsBytes, AreSteps}
 use Rattle.stepnc.proofs.Beginnings.{no_test}
 use Rattle.stepnc.proofs.SameEntity.{same_entities}
 
@@ -75,3 +80,14 @@ not_defined x es main steps all plan e p held =
 pub steps_stop : (x : ExchangeTree) (es : List Entity) (main : ℕ) (steps : List ℕ) (e : ProjectErr) → all_typed x.items ≡ Some (map entity_of es) → main_plan es ≡ Some (main, steps) → AreSteps es steps (Err e) → Reads x (Err e)
 steps_stop x es main steps NotBuilt all plan said = not_defined x es main steps all plan said
 steps_stop x es main steps NoMemory all plan said = tt
+
+pub not_read : (bytes : List ℕ) (e : ReadErr) → ((x : ExchangeTree) → IsPlainFile bytes x → Answers (Err e) x) → ReadsBytes bytes (Err (from_read e))
+not_read bytes reads.NotBuilt only = λ p held. only held.exchange held.spelled
+not_read bytes reads.NoMemory only = tt
+
+-- what the exchange holds is what the bytes hold that spell it
+pub of_bytes : (bytes : List ℕ) (x : ExchangeTree) (r : Result Held ProjectErr) → length bytes ≤ 16777216 → IsPlainFile bytes x → ((y : ExchangeTree) → IsPlainFile bytes y → x ≡ y)
+    → Reads x r → ReadsBytes bytes r
+of_bytes bytes x (Ok p) short file only held = (record { short = short; exchange = x; spelled = file; project = held.0 }, held.1)
+of_bytes bytes x (Err NotBuilt) short file only none = λ p held. none p (subst (λ (y : ExchangeTree). IsProject y p) (sym (only held.exchange held.spelled)) held.project)
+of_bytes bytes x (Err NoMemory) short file only none = tt

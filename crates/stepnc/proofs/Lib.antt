@@ -5,3 +5,4 @@ pub mod Typing
 pub mod SameEntity
 pub mod Holding
 pub mod Stepping
+pub mod Running

@@ -4,3 +4,7 @@ pub mod Narrow
 pub mod Project
 pub mod Errors
 pub mod Projects
+pub mod Texts
+pub mod Codes
+pub mod Answer
+pub mod Answered

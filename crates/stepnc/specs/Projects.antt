@@ -14,7 +14,7 @@ use Rattle.run_core.specs.PlainRun as plain
 use Rattle.stepnc.specs.declared.project.ProjectErr.{ProjectErr}
 use Rattle.stepnc.specs.declared.project.ProjectErr.TheVariants.{NotBuilt, NoMemory}
 use Rattle.stepnc.specs.declared.project.Project.{Project as Held}
-use Rattle.stepnc.specs.Project.{Project, IsProject, all_typed, is_runnable, paths_in}
+use Rattle.stepnc.specs.Project.{Project, IsProject, Holds, HoldsNone, all_typed, is_runnable, paths_in}
 
 -- the entities of the instances, or that some instance has none, unless memory ran out
 abbrev pub AllTyped : List InstanceTree → Result (Vec Entity) ProjectErr → Type 0
@@ -47,3 +47,9 @@ abbrev pub Reads : ExchangeTree → Result Held ProjectErr → Type 0
 Reads x (Ok p) = IsProject x (model_of p) × HaveDefs p.store p.steps.items
 Reads x (Err NotBuilt) = (p : Project) → IsProject x p → ⊥
 Reads x (Err NoMemory) = Unit {0}
+
+-- the project that stands in the bytes, or that none stands there that can be run, unless memory ran out
+abbrev pub ReadsBytes : List ℕ → Result Held ProjectErr → Type 0
+ReadsBytes bytes (Ok p) = Holds bytes (model_of p) × HaveDefs p.store p.steps.items
+ReadsBytes bytes (Err NotBuilt) = HoldsNone bytes
+ReadsBytes bytes (Err NoMemory) = Unit {0}

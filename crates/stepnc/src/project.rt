@@ -14,7 +14,7 @@ use crate::narrow::can_run_all;
 use entity_read::{TypeErr, typed};
 use entity_types::{Entity, Field};
 use nc_base::{NoMemory, Number, Steps, are_distinct};
-use p21_parse::{Exchange, Instance};
+use p21_parse::{Exchange, Instance, ReadErr};
 use project_store::{Entities, Store, StoreErr};
 use run_core::Step;
 use std::alloc::{AllocError, AllocFailed, Global};
@@ -57,6 +57,19 @@ impl<T: Drop> From<AllocFailed<T>> for ProjectErr {
 
     fn from(_e: AllocFailed<T>) -> ProjectErr {
         ProjectErr::NoMemory
+    }
+}
+
+impl From<ReadErr> for ProjectErr {
+    ghost use Rattle.stepnc.specs.Errors.{from_read};
+
+    ghost from_gives = { λ r e. e ≡ from_read r };
+
+    fn from(e: ReadErr) -> ProjectErr {
+        match e {
+            ReadErr::NotBuilt => ProjectErr::NotBuilt,
+            ReadErr::NoMemory => ProjectErr::NoMemory,
+        }
     }
 }
 

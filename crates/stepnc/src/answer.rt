@@ -1,0 +1,107 @@
+//! What the program answers to words, and how it says so.
+
+ghost use Rattle.std.specs.Prelude.{◌≡◌, ◌+◌, ◌≤◌, ◌<◌, ◌^◌, ◌++◌, length, OnOk, OnErr};
+ghost use Rattle.arrayvec.specs.ArrayVec.{array_vec_len};
+ghost use Rattle.nc_outside.specs.Outside.{Rose, Appends, AppendsFront};
+ghost use Rattle.run_log.specs.LogText.{text_of};
+ghost use Rattle.stepnc.specs.Texts.{bad_words_line, help_text, version_text};
+ghost use Rattle.stepnc.specs.Answer.{IsCountable, answer_text, answer_status};
+
+use crate::status::{ProjectReason, Status};
+use arrayvec::ArrayVec;
+use itoa::Buffer;
+use nc_outside::{Failed, Sink, put_all};
+use run_log::{Ending, Log};
+
+/// What the program answers, before it is written.
+#[derive(Drop)]
+pub enum Answer {
+    /// The words are bad at this place.
+    BadWords(u32),
+    Help,
+    Version,
+    /// The file holds no project that can be run.
+    NotBuilt,
+    /// The project ran so.
+    Ran(Log, Ending),
+}
+
+/// Why there is no answer.
+#[derive(Clone, Copy, Debug, PartialEq, Eq)]
+pub enum Stop {
+    ReadFault,
+    NoMemory,
+}
+
+/// Which commands there are.
+const HELP: &[u8] = b"stepnc runs a STEP-NC project and writes its run log.\n\n  stepnc replay PROJECT - - LIMIT\n      runs the project in the file PROJECT, up to LIMIT entries (1 to 2000000)\n  stepnc --help\n      writes this text\n  stepnc --version\n      writes the version\n";
+
+/// Which program this is.
+const VERSION: &[u8] = b"stepnc 0.1.0\n";
+
+/// A line that is being made.
+type Line = ArrayVec<u8, 64>;
+
+/// Puts bytes at the line's end.
+fn put(line: &mut Line, bytes: &[u8])
+    requires { array_vec_len line.old + length bytes.now ≤ 64 }
+    ensures items { line.new.items ≡ line.old.items ++ bytes.now }
+    ensures len { array_vec_len line.new ≡ array_vec_len line.old + length bytes.now }
+{
+    line.try_extend_from_slice(bytes).unwrap();
+}
+
+/// The line of words that are bad at a place.
+fn bad_words(place: u32) -> Line
+    ensures { result.items ≡ bad_words_line place }
+{
+    let mut line = Line::new();
+    let mut buffer = Buffer::new();
+    put(&mut line, b"refused BadWords ");
+    put(&mut line, buffer.format(place).as_bytes());
+    put(&mut line, b"\n");
+    line
+}
+
+/// Writes a log.
+fn put_log<S: Sink>(log: &Log, ending: Ending, sink: &mut S) -> Result<(), Failed>
+    requires { length log.now < 2 ^ 32 }
+    ensures counted { S.faults sink.old ≤ S.faults sink.new }
+    ensures ok { OnOk result (Appends (S.taken sink.old) (S.taken sink.new) (text_of log.now ending)) }
+    ensures failed { OnErr result (Rose (S.faults sink.old) (S.faults sink.new)) }
+    ensures failed_takes_front { OnErr result (AppendsFront (S.taken sink.old) (S.taken sink.new) (text_of log.now ending)) }
+{
+    run_log::write(log.as_slice(), ending, sink).map_err(|_| Failed)
+}
+
+impl Answer {
+    /// The status of the answer, once it is written.
+    pub fn status(&self) -> Status
+        ensures { result ≡ answer_status self.now }
+    {
+        match self {
+            Answer::BadWords(place) => Status::BadWords(*place),
+            Answer::Help | Answer::Version => Status::Written,
+            Answer::NotBuilt => Status::ProjectRefused(ProjectReason::NotBuilt),
+            Answer::Ran(_, Ending::Done) => Status::Done,
+            Answer::Ran(_, Ending::Limit) => Status::RunLimit,
+        }
+    }
+
+    /// Writes the answer. It takes no memory.
+    pub fn write<S: Sink>(&self, sink: &mut S) -> Result<(), Failed>
+        requires { IsCountable self.now }
+        ensures counted { S.faults sink.old ≤ S.faults sink.new }
+        ensures ok { OnOk result (Appends (S.taken sink.old) (S.taken sink.new) (answer_text self.now)) }
+        ensures failed { OnErr result (Rose (S.faults sink.old) (S.faults sink.new)) }
+        ensures failed_takes_front { OnErr result (AppendsFront (S.taken sink.old) (S.taken sink.new) (answer_text self.now)) }
+    {
+        match self {
+            Answer::BadWords(place) => put_all(sink, bad_words(*place).as_slice()),
+            Answer::Help => put_all(sink, HELP),
+            Answer::Version => put_all(sink, VERSION),
+            Answer::NotBuilt => put_all(sink, b"refused NotBuilt\n"),
+            Answer::Ran(log, ending) => put_log(log, *ending, sink),
+        }
+    }
+}
