@@ -92,10 +92,10 @@ pub bad_at : (ws : List (List ℕ)) (a b c n : ℕ) → AreFit ws replay_line a 
     → a ≤ n → b ≤ n → c ≤ n → ((n ≡ a) ⊎ ((n ≡ b) ⊎ (n ≡ c))) → AreBadAt ws n
 bad_at ws a b c n fit_a fit_b fit_c no_a no_b no_c le_a le_b le_c which = record {
   no_line = or3 (is_line ws replay_line) (is_line ws help_line) (is_line ws version_line) no_a no_b no_c;
-  within = elim which [ | inl e ↦ omega (arith, fit_a.within) | inr later ↦ elim later [ | inl e ↦ omega (arith, fit_b.within) | inr e ↦ omega (arith, fit_c.within) ] ];
+  within = elim which [ inl e ↦ omega (arith, fit_a.within) | inr later ↦ elim later [ inl e ↦ omega (arith, fit_b.within) | inr e ↦ omega (arith, fit_c.within) ] ];
   begun = or_first (begins (take n ws) replay_line) (begins (take n ws) help_line) (begins (take n ws) version_line) (elim which [
     | inl e ↦ inl (rw e fit_a.begun)
-    | inr later ↦ inr (elim later [ | inl e ↦ inl (rw e fit_b.begun) | inr e ↦ inr (rw e fit_c.begun) ])
+    | inr later ↦ inr (elim later [ inl e ↦ inl (rw e fit_b.begun) | inr e ↦ inr (rw e fit_c.begun) ])
   ]);
   ended = λ lt. or3 (begins (take (n + 1) ws) replay_line) (begins (take (n + 1) ws) help_line) (begins (take (n + 1) ws) version_line)
       (no_begin ws replay_line a (n + 1) fit_a (omega arith) (omega arith)) (no_begin ws help_line b (n + 1) fit_b (omega arith) (omega arith))
@@ -152,12 +152,12 @@ limit_is w (Some m) n e said = let same : m ≡ n = cc in sym same ∙ said.1
 
 -- the greatest of two numbers is one of them
 max_is : (a b m : ℕ) → m ≡ max a b → (m ≡ a) ⊎ (m ≡ b)
-max_is a b m e = elim (tested (nat_le a b)) [ | inl t ↦ inr (grind (arith, nat_tests)) | inr f ↦ inl (grind (arith, nat_tests)) ]
+max_is a b m e = elim (tested (nat_le a b)) [ inl t ↦ inr (grind (arith, nat_tests)) | inr f ↦ inl (grind (arith, nat_tests)) ]
 
 -- the greatest of three numbers is one of them
 pub greatest : (a b c m n : ℕ) → m ≡ max a b → n ≡ max m c → (a ≤ n) × (b ≤ n) × (c ≤ n) × ((n ≡ a) ⊎ ((n ≡ b) ⊎ (n ≡ c)))
 greatest a b c m n p q =
-    (omega arith, omega arith, omega arith, elim (max_is m c n q) [ | inl e ↦ elim (max_is a b m p) [ | inl f ↦ inl (e ∙ f) | inr f ↦ inr (inl (e ∙ f)) ] | inr e ↦ inr (inr e) ])
+    (omega arith, omega arith, omega arith, elim (max_is m c n q) [ inl e ↦ elim (max_is a b m p) [ inl f ↦ inl (e ∙ f) | inr f ↦ inr (inl (e ∙ f)) ] | inr e ↦ inr (inr e) ])
 
 begins_short : (ws : List (List ℕ)) (forms : List Form) → begins ws forms ≡ true → length ws ≤ length forms
 begins_short [] forms e = omega arith

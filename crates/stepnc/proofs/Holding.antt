@@ -74,7 +74,7 @@ not_distinct x es main steps all plan twice p held = twice (subst (λ (ns : List
 pub not_defined : (x : ExchangeTree) (es : List Entity) (main : ℕ) (steps : List ℕ) → all_typed x.items ≡ Some (map entity_of es) → main_plan es ≡ Some (main, steps) → list_all (is_runnable es) steps ≡ false → (p : Project) → IsProject x p → ⊥
 not_defined x es main steps all plan e p held =
     let same : list_all (is_runnable p.entities) p.steps ≡ list_all (is_runnable es) steps =
-        ap (λ (ns : List ℕ). list_all (is_runnable p.entities) ns) (steps_are x es main steps p all plan held) ∙ ap (λ (fs : List Entity). list_all (is_runnable fs) steps) (entities_are x es p all held) in
+    ap (λ (ns : List ℕ). list_all (is_runnable p.entities) ns) (steps_are x es main steps p all plan held) ∙ ap (λ (fs : List Entity). list_all (is_runnable fs) steps) (entities_are x es p all held) in
     no_test (list_all (is_runnable p.entities) p.steps) held.defined (same ∙ e)
 
 pub steps_stop : (x : ExchangeTree) (es : List Entity) (main : ℕ) (steps : List ℕ) (e : ProjectErr) → all_typed x.items ≡ Some (map entity_of es) → main_plan es ≡ Some (main, steps) → AreSteps es steps (Err e) → Reads x (Err e)

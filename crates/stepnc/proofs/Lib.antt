@@ -1,6 +1,6 @@
 pub mod Digits
 pub mod Beginnings
-pub mod Tests
+pub mod Folds
 pub mod Typing
 pub mod SameEntity
 pub mod Holding

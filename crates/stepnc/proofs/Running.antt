@@ -23,9 +23,9 @@ use Rattle.stepnc.proofs.Beginnings.{no_test, tested}
 
 other : (m n : ℕ) → nat_eq n m ≡ false → (m == n) ≡ false
 other m n e = elim (tested (m == n)) [
-    | inl t ↦ absurd (no_test (n == m) (eq-eqb n m (sym (eqb-true m n t))) e)
-    | inr f ↦ f
-  ]
+  | inl t ↦ absurd (no_test (n == m) (eq-eqb n m (sym (eqb-true m n t))) e)
+  | inr f ↦ f
+]
 
 not_among : (n : ℕ) (ns : List ℕ) → AllByRecursion (λ y. nat_eq n y ≡ false) ns → has ns n ≡ false
 not_among n [] all = refl

@@ -10,7 +10,7 @@ use Rattle.run_core.specs.declared.step.Step.{Step}
 use Rattle.run_core.specs.PlainRun.{numbers_of}
 use Rattle.stepnc.specs.Project.{is_runnable}
 use Rattle.stepnc.specs.Projects.{IsStepAt, HaveDefs}
-use Rattle.stepnc.proofs.Tests.{all_push, all_fails}
+use Rattle.stepnc.proofs.Folds.{all_push, all_fails}
 
 defs_push : (entities : List Entity) (steps : List Step) (s : Step) → HaveDefs entities steps → def_of (entity_at entities) s.number ≡ Ok s.def → HaveDefs entities (steps ++ s ∷ [])
 defs_push entities [] s have e = (e, tt)

@@ -55,7 +55,7 @@ pub one_untyped : (xs : List Instance) (i : ℕ) (x : Instance) → i < length x
 one_untyped xs i x lt is (types.BadAttribute n p) said =
     let rest : drop i xs ≡ x ∷ drop (i + 1) xs = rw add-one (drop-cons xs i x lt ∙ ap (λ (y : Instance). y ∷ drop (suc i) xs) (sym is)) in
     let whole : map instance_of xs ≡ map instance_of (take i xs) ++ (instance_of x ∷ map instance_of (drop (i + 1) xs)) =
-        ap (map instance_of) (sym (take-append-drop i xs)) ∙ map-append instance_of (take i xs) (drop i xs) ∙ ap (λ (ys : List Instance). map instance_of (take i xs) ++ map instance_of ys) rest in
+    ap (map instance_of) (sym (take-append-drop i xs)) ∙ map-append instance_of (take i xs) (drop i xs) ∙ ap (λ (ys : List Instance). map instance_of (take i xs) ++ map instance_of ys) rest in
     rw whole (typed_none (map instance_of (take i xs)) (instance_of x) (map instance_of (drop (i + 1) xs)) (ap result_ok said.1))
 one_untyped xs i x lt is types.NoMemory said = tt
 

@@ -34,7 +34,8 @@ pub enum Stop {
 }
 
 /// Which commands there are.
-const HELP: &[u8] = b"stepnc runs a STEP-NC project and writes its run log.\n\n  stepnc replay PROJECT - - LIMIT\n      runs the project in the file PROJECT, up to LIMIT entries (1 to 2000000)\n  stepnc --help\n      writes this text\n  stepnc --version\n      writes the version\n";
+const HELP: &[u8] =
+    b"stepnc runs a STEP-NC project and writes its run log.\n\n  stepnc replay PROJECT - - LIMIT\n      runs the project in the file PROJECT, up to LIMIT entries (1 to 2000000)\n  stepnc --help\n      writes this text\n  stepnc --version\n      writes the version\n";
 
 /// Which program this is.
 const VERSION: &[u8] = b"stepnc 0.1.0\n";

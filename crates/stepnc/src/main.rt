@@ -46,3 +46,6 @@ fn serve(rt: HostRuntime) -> Result<Status, NoMemory> {
 fn main(rt: HostRuntime) -> ExitCode {
     ExitCode::from(serve(rt).unwrap_or(Status::NoMemory).code())
 }
+
+#[cfg(test)]
+mod tests;

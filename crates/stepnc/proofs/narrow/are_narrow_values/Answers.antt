@@ -1,7 +1,7 @@
 use Rattle.std.proofs.Common.{sym, ◌∙◌}
 use Rattle.p21_parse.specs.View.{tree_of}
 use Rattle.stepnc.specs.Narrow.{is_narrow_value}
-use Rattle.stepnc.proofs.Tests.{all_stop}
+use Rattle.stepnc.proofs.Folds.{all_stop}
 use Rattle.stepnc.proofs.narrow.are_narrow_values.Goals as goal
 
 pub returns-then-not-is_narrow_value : goal.returns-then-not-is_narrow_value

@@ -1,7 +1,7 @@
 use Rattle.std.proofs.Common.{sym, ◌∙◌}
 use Rattle.p21_parse.specs.View.{instance_of}
 use Rattle.stepnc.specs.Narrow.{can_run}
-use Rattle.stepnc.proofs.Tests.{all_stop}
+use Rattle.stepnc.proofs.Folds.{all_stop}
 use Rattle.stepnc.proofs.narrow.can_run_all.Goals as goal
 
 pub returns-then-not-can_run_instance : goal.returns-then-not-can_run_instance

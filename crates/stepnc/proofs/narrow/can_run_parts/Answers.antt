@@ -1,7 +1,7 @@
 use Rattle.std.proofs.Common.{sym, ◌∙◌}
 use Rattle.p21_parse.specs.View.{part_of}
 use Rattle.stepnc.specs.Narrow.{can_run_part}
-use Rattle.stepnc.proofs.Tests.{all_stop}
+use Rattle.stepnc.proofs.Folds.{all_stop}
 use Rattle.stepnc.proofs.narrow.can_run_parts.Goals as goal
 
 pub returns-then-not-can_run_part : goal.returns-then-not-can_run_part

@@ -16,10 +16,10 @@ returns-in_err-entity c =
 pub loop-instance-preserved : goal.loop-instance-preserved
 loop-instance-preserved c =
     rw c.in_ok-push.ensures.items (one_typed c.args.instances.now c.loop-instance.instance-index c.instance-item.result c.loop-instance.entities.items c.in_ok-entity.entity c.loop-instance-test.true c.instance-item.is
-        c.loop-instance.invariant c.in_ok-entity.ensures)
+    c.loop-instance.invariant c.in_ok-entity.ensures)
 
 pub returns : goal.returns
 returns c =
     let whole : all_typed (map instance_of c.args.instances.now) ≡ Some (map entity_of c.loop-instance.entities.items) =
-        subst (λ (xs : List Instance). all_typed (map instance_of xs) ≡ Some (map entity_of c.loop-instance.entities.items)) (take_all c.loop-instance.instance-index c.args.instances.now (omega arith)) c.loop-instance.invariant in
+    subst (λ (xs : List Instance). all_typed (map instance_of xs) ≡ Some (map entity_of c.loop-instance.entities.items)) (take_all c.loop-instance.instance-index c.args.instances.now (omega arith)) c.loop-instance.invariant in
     (whole, typed_numbers (map instance_of c.args.instances.now) c.loop-instance.entities.items whole)

@@ -31,7 +31,7 @@ pub returns-then-not-branch : goal.returns-then-not-branch
 returns-then-not-branch c =
     let all = of_exchange c.as_slice-instances.result.now c.args.exchange.now.items c.in_ok-entities.entities.items c.in_ok-store.store c.as_slice-instances.ensures c.in_ok-store.ensures.1 c.in_ok-entities.ensures.0 in
     not_distinct (exchange_of c.args.exchange.now) c.in_ok-store.store c.in-Some.main c.in-Some.numbers.now all (sym c.in-Some.ensures)
-        (λ d. no_test c.in_ok-are_distinct.field-0 (c.in_ok-are_distinct.ensures.1 d) c.if-not-branch.true)
+    (λ d. no_test c.in_ok-are_distinct.field-0 (c.in_ok-are_distinct.ensures.1 d) c.if-not-branch.true)
 
 pub returns-in_err-steps : goal.returns-in_err-steps
 returns-in_err-steps c =

@@ -10,6 +10,9 @@ run-requires c = rw c.as_slice.ensures.value (are_distinct (numbers_of c.in-Ok.p
 
 pub returns-in_ok-log-in-Ok-clause-replays : goal.returns-in_ok-log-in-Ok-clause-replays
 returns-in_ok-log-in-Ok-clause-replays c =
-    let have = subst (λ (ss : List Step). HaveDefs c.in-Ok.project.store ss) (sym c.as_slice.ensures.value) c.in-Ok.ensures.1 in
-    (model_of c.in-Ok.project, c.in-Ok.ensures.0, is_run (model_of c.in-Ok.project) c.as_slice.result.now c.args.limit c.in_ok-log-in-Ok.log c.in_ok-log-in-Ok.ending (rw c.as_slice.ensures.value refl) have
-        c.in_ok-log-in-Ok.ensures.legal c.in_ok-log-in-Ok.ensures.ends c.in_ok-log-in-Ok.ensures.within)
+    let have = subst (λ (ss : List Step). HaveDefs c.in-Ok.project.store ss) (sym c.as_slice.ensures.value) c.in-Ok.ensures.1 in (
+      model_of c.in-Ok.project,
+      c.in-Ok.ensures.0,
+      is_run (model_of c.in-Ok.project) c.as_slice.result.now c.args.limit c.in_ok-log-in-Ok.log c.in_ok-log-in-Ok.ending (rw c.as_slice.ensures.value refl) have
+          c.in_ok-log-in-Ok.ensures.legal c.in_ok-log-in-Ok.ensures.ends c.in_ok-log-in-Ok.ensures.within,
+    )
