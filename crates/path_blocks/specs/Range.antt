@@ -1,5 +1,5 @@
 -- The ranges that the numbers of a definition keep.
-use Rattle.std.specs.Prelude.{ℤ, pos, negsuc, int_lt, Bool, ◌&&◌, List, [], ◌∷◌}
+use Rattle.std.specs.Prelude.{ℤ, pos, negsuc, int_lt, Bool, ◌&&◌, [], ◌∷◌}
 use Rattle.std.specs.List.{list_all}
 use Rattle.path_blocks.specs.declared.def.Shape.{Shape}
 use Rattle.path_blocks.specs.declared.def.Shape.TheVariants.{Drill}

@@ -8,3 +8,6 @@ mod plan;
 pub use block::Block;
 pub use def::{Def, Shape};
 pub use plan::Plan;
+
+#[cfg(test)]
+mod tests;

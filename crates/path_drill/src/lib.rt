@@ -66,3 +66,6 @@ pub fn path(alloc: Global, def: &Def) -> Result<Plan, NoMemory>
         Shape::Drill { x, y, dwell } => Ok(Plan::new(*def, blocks_of(alloc, def, x, y, dwell)?)),
     }
 }
+
+#[cfg(test)]
+mod tests;

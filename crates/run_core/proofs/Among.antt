@@ -1,12 +1,12 @@
 -- Entries of some nodes and of others in one list.
-use Rattle.std.proofs.Common.{◌≡◌, ℕ, ◌+◌, Bool, true, false, cond, eqb, List, [], ◌∷◌, ◌++◌, Option, Some, None, refl, sym, ap, subst, ◌∙◌, inl, inr}
+use Rattle.std.proofs.Common.{◌≡◌, ℕ, Bool, true, false, cond, eqb, List, [], ◌∷◌, ◌++◌, Option, Some, None, refl, sym, ap, ◌∙◌, inl, inr}
 use Rattle.std.specs.Prelude.{filter, ◌⊎◌, ◌||◌}
 use Rattle.std.proofs.lemmas.Bool.{eqb-true, eq-eqb}
 use Rattle.std.proofs.lemmas.List.Elements.{filter-append}
 use Rattle.run_log.specs.declared.entry.Entry.{Entry}
 use Rattle.run_log.specs.declared.entry.Entry.TheVariants.{Dispatch, Block, End}
-use Rattle.trace_law.specs.Of.{has, number_of, is_of, only, AreDistinct}
-use Rattle.run_core.specs.State.{dispatches, cuts, ends, since, since_by, is_open, blocks_since}
+use Rattle.trace_law.specs.Of.{has, is_of, only}
+use Rattle.run_core.specs.State.{dispatches, since, since_by, is_open}
 
 pub no_way : true ≡ false → ⊥
 no_way e = absurd (cc)

@@ -1,6 +1,6 @@
 -- Every front of a run of workingsteps in a row is legal, and only the whole of it is done.
-use Rattle.std.proofs.Common.{◌≡◌, ℕ, zero, suc, ◌+◌, ◌<◌, ◌≤◌, Bool, true, false, cond, eqb, List, [], ◌∷◌, ◌++◌, length, take, drop, Option, Some, None, refl, sym, ap, subst, ◌∙◌, append_assoc, append-nil, arith, inl, inr, length-take, length-append}
-use Rattle.std.specs.Prelude.{◌⊎◌, IsSomeAnd, if◌then◌else◌}
+use Rattle.std.proofs.Common.{◌≡◌, ℕ, zero, suc, ◌<◌, ◌≤◌, Bool, true, false, cond, eqb, List, [], ◌∷◌, ◌++◌, length, take, drop, Option, Some, None, refl, sym, ap, subst, ◌∙◌, append_assoc, append-nil, arith, inl, inr, length-take}
+use Rattle.std.specs.Prelude.{IsSomeAnd, if◌then◌else◌}
 use Rattle.std.specs.List.{flat_map}
 use Rattle.std.proofs.lemmas.Bool.{eqb-true}
 use Rattle.std.proofs.lemmas.List.{take-append-drop, length-take-le}
@@ -8,16 +8,15 @@ use Rattle.path_blocks.specs.declared.block.Block.{Block}
 use Rattle.path_blocks.specs.Path.{path_of}
 use Rattle.run_log.specs.declared.entry.Entry.{Entry}
 use Rattle.run_log.specs.declared.entry.Ending.TheVariants as endings
-use Rattle.run_log.specs.declared.entry.Ending.{Ending}
 use Rattle.trace_law.specs.Exec.{Exec, Plan}
 use Rattle.trace_law.specs.Of.{has, number_of, AreDistinct}
 use Rattle.trace_law.specs.Whole.{Whole}
 use Rattle.trace_law.specs.Next.{next}
 use Rattle.run_core.specs.declared.step.Step.{Step}
 use Rattle.run_core.specs.State.{is_open}
-use Rattle.run_core.specs.Fits.{IsEnabled, Fits}
+use Rattle.run_core.specs.Fits.{IsEnabled}
 use Rattle.run_core.specs.Legal.{Legal}
-use Rattle.run_core.specs.Endings.{IsDone, IsAtLimit, EndsSo}
+use Rattle.run_core.specs.Endings.{IsDone, EndsSo}
 use Rattle.run_core.specs.PlainRun.{entries_of, numbers_of, works, GivePaths, Grows}
 use Rattle.run_core.proofs.Among.{tested, of_itself, same, either, apart_back}
 use Rattle.run_core.proofs.Standing.{Stands, stands, whole_parts}

@@ -1,18 +1,18 @@
 -- The entries of one workingstep.
-use Rattle.std.proofs.Common.{◌≡◌, ℕ, zero, suc, ◌+◌, ◌<◌, Bool, true, false, cond, eqb, List, [], ◌∷◌, ◌++◌, length, Option, Some, None, refl, sym, ap, subst, ◌∙◌, arith, inl, inr}
-use Rattle.std.specs.Prelude.{filter, ◌⊎◌, ◌||◌, not, slice_get, IsSomeAnd, count_by}
+use Rattle.std.proofs.Common.{◌≡◌, ℕ, suc, ◌+◌, Bool, true, false, cond, eqb, List, [], ◌∷◌, ◌++◌, length, Option, Some, None, refl, sym, ap, subst, ◌∙◌, arith, inl, inr}
+use Rattle.std.specs.Prelude.{◌⊎◌, slice_get, count_by}
 use Rattle.std.specs.List.{list_any}
 use Rattle.std.proofs.lemmas.List.Sums.{sum_by-cons}
 use Rattle.path_blocks.specs.declared.block.Block.{Block}
 use Rattle.run_log.specs.declared.entry.Entry.{Entry}
 use Rattle.run_log.specs.declared.entry.Entry.TheVariants as entries
-use Rattle.trace_law.specs.Of.{has, number_of, is_of, only}
+use Rattle.trace_law.specs.Of.{number_of, only}
 use Rattle.trace_law.specs.Whole.{IsCut, IsWork}
 use Rattle.trace_law.specs.Next.{next_work}
-use Rattle.run_core.specs.State.{dispatches, cuts, ends, since, since_by, is_open, blocks_since}
+use Rattle.run_core.specs.State.{cuts, ends, since, is_open}
 use Rattle.run_core.specs.Fits.{HasValues}
 use Rattle.run_core.specs.PlainRun.{cut_from, segment}
-use Rattle.run_core.proofs.Among.{no_way, either, same, of_itself, not_of, since_none}
+use Rattle.run_core.proofs.Among.{same, since_none}
 
 -- ---- the entries of a segment are of its node
 

@@ -1,25 +1,25 @@
 -- Where a run of workingsteps in a row stands.
-use Rattle.std.proofs.Common.{◌≡◌, ◌≢◌, ℕ, zero, suc, ◌+◌, ◌<◌, Bool, true, false, cond, eqb, List, [], ◌∷◌, ◌++◌, length, Option, Some, None, refl, sym, ap, subst, ◌∙◌, append_assoc, append-nil, arith, inl, inr}
-use Rattle.std.specs.Prelude.{filter, ◌⊎◌, ◌||◌, IsSomeAnd}
+use Rattle.std.proofs.Common.{◌≡◌, ℕ, Bool, true, false, eqb, List, [], ◌∷◌, ◌++◌, Option, Some, refl, sym, ap, subst, ◌∙◌, append_assoc, append-nil, inl, inr}
+use Rattle.std.specs.Prelude.{◌||◌}
 use Rattle.std.specs.List.{flat_map}
-use Rattle.std.proofs.lemmas.Bool.{eqb-true, eq-eqb}
+use Rattle.std.proofs.lemmas.Bool.{eqb-true}
 use Rattle.std.proofs.lemmas.List.Elements.{filter-append}
 use Rattle.std.proofs.lemmas.List.Concat.{flat_map-cons}
 use Rattle.path_blocks.specs.declared.block.Block.{Block}
 use Rattle.path_blocks.specs.Path.{path_of}
 use Rattle.run_log.specs.declared.entry.Entry.{Entry}
 use Rattle.run_log.specs.declared.entry.Entry.TheVariants as entries
-use Rattle.trace_law.specs.Exec.{Exec, Work, Plan, Execs, NoMore, Then, nodes}
+use Rattle.trace_law.specs.Exec.{Work}
 use Rattle.trace_law.specs.Of.{has, number_of, is_of, only, joined, AreDistinct}
 use Rattle.trace_law.specs.Whole.{IsWork, Whole, EachWhole}
 use Rattle.trace_law.specs.Part.{Part, InOrder}
-use Rattle.trace_law.specs.Next.{first_of_two, next_work, next, next_in_order}
+use Rattle.trace_law.specs.Next.{next_in_order}
 use Rattle.run_core.specs.declared.step.Step.{Step}
-use Rattle.run_core.specs.State.{since, is_open, blocks_since}
-use Rattle.run_core.specs.Fits.{HasValues, IsEnabled, Fits}
+use Rattle.run_core.specs.State.{is_open}
+use Rattle.run_core.specs.Fits.{HasValues}
 use Rattle.run_core.specs.PlainRun.{segment, entries_of, numbers_of, works, GivePaths}
-use Rattle.run_core.proofs.Among.{no_test, tested, either, same, of_itself, not_of, apart_back, lacks_both, lacks_front, past_others, closed_none, since_past, split}
-use Rattle.run_core.proofs.Segments.{segment_of, segment_of_other, segment_is_work, segment_over, Inside, inside, closed_behind}
+use Rattle.run_core.proofs.Among.{no_test, tested, either, same, of_itself, apart_back, lacks_both, lacks_front, past_others, closed_none, since_past, split}
+use Rattle.run_core.proofs.Segments.{segment_of, segment_of_other, segment_is_work, segment_over, inside, closed_behind}
 
 -- ---- lists without entries of some steps
 

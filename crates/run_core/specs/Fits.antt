@@ -1,6 +1,6 @@
 -- Which entry may follow a run so far. `paths` gives each workingstep's blocks: the path of its definition as it stood when
 -- the step was dispatched. There are no edits at this stage, so every version is 0 and no edit is ever due.
-use Rattle.std.specs.Prelude.{◌≡◌, ℕ, Bool, true, false, List, [], ◌∷◌, ◌++◌, length, slice_get, Option, Some, None, IsSomeAnd}
+use Rattle.std.specs.Prelude.{◌≡◌, ℕ, true, false, List, [], ◌∷◌, ◌++◌, length, slice_get, Option, Some, IsSomeAnd}
 use Rattle.path_blocks.specs.declared.block.Block.{Block}
 use Rattle.run_log.specs.declared.entry.Entry.{Entry}
 use Rattle.run_log.specs.declared.entry.Entry.TheVariants as entries

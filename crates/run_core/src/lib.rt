@@ -6,3 +6,6 @@ mod step;
 
 pub use plain::run;
 pub use step::Step;
+
+#[cfg(test)]
+mod tests;

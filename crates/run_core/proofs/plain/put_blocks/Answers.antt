@@ -1,4 +1,3 @@
-use Rattle.std.proofs.Common.{arith, subst}
 use Rattle.run_core.proofs.Growing.{blocks_on, blocks_stop}
 use Rattle.run_core.proofs.plain.put_blocks.Goals as goal
 

@@ -1,7 +1,5 @@
-use Rattle.std.proofs.Common.{◌≡◌, List, true, subst, ap, ◌∙◌}
-use Rattle.path_blocks.specs.declared.block.Block.{Block}
+use Rattle.std.proofs.Common.{◌≡◌, ap, ◌∙◌}
 use Rattle.path_blocks.specs.Path.{path_of}
-use Rattle.run_core.specs.PlainRun.{cut_from, Grows}
 use Rattle.run_core.proofs.Growing.{dispatch_stop, cut_stop, step_on, if_ok}
 use Rattle.run_core.proofs.plain.put_step.Goals as goal
 

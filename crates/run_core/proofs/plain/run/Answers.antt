@@ -1,4 +1,4 @@
-use Rattle.run_core.proofs.Legality.{grown_legal, ends_so, grown_within}
+use Rattle.run_core.proofs.Legality.{grown_legal, ends_so}
 use Rattle.run_core.proofs.plain.run.Goals as goal
 use Rattle.run_core.proofs.plain.run.Goals.{then-branch, else-branch}
 

@@ -1,0 +1,86 @@
+use super::*;
+use std::test::Fail;
+
+/// A hole with a dwell of half a second at its bottom. It is 14 mm deep and is cut in levels of 5 mm, which the path of a drilled
+/// hole doesn't show.
+fn dwelling() -> Def {
+    Def {
+        tool: 44,
+        spindle: 20_000,
+        feed: 40,
+        sec: 30_000,
+        ret: 5_000,
+        z0: -1_000,
+        bottom: -15_000,
+        axial: 5_000,
+        shape: Shape::Drill {
+            x: 10_000,
+            y: -20_000,
+            dwell: 500,
+        },
+    }
+}
+
+/// Another hole, without a dwell.
+fn plain() -> Def {
+    Def {
+        tool: 7,
+        spindle: -12_500,
+        feed: 1,
+        sec: 50_000,
+        ret: 50_000,
+        z0: 0,
+        bottom: -1,
+        axial: 1,
+        shape: Shape::Drill {
+            x: -4_000,
+            y: 0,
+            dwell: 0,
+        },
+    }
+}
+
+fn tool(tool: u32, spindle: i64) -> Block {
+    Block::Tool { tool, spindle }
+}
+
+fn rapid(x: i64, y: i64, z: i64) -> Block {
+    Block::Rapid { x, y, z }
+}
+
+fn feed(x: i64, y: i64, z: i64, f: i64) -> Block {
+    Block::Feed { x, y, z, f }
+}
+
+#[test]
+fn a_hole_with_a_dwell(rt: HostRuntime) -> Result<(), Fail> {
+    let blocks = [
+        tool(44, 20_000),
+        rapid(10_000, -20_000, 30_000),
+        rapid(10_000, -20_000, 5_000),
+        feed(10_000, -20_000, -15_000, 40),
+        Block::Dwell { ms: 500 },
+        rapid(10_000, -20_000, 5_000),
+        rapid(10_000, -20_000, 30_000),
+    ];
+    let plan = path(rt.alloc(), &dwelling())?;
+    assert_eq!(rt; plan.blocks(), blocks.as_slice());
+    assert_eq!(rt; *plan.def(), dwelling());
+    Ok(())
+}
+
+#[test]
+fn a_hole_without_a_dwell(rt: HostRuntime) -> Result<(), Fail> {
+    let blocks = [
+        tool(7, -12_500),
+        rapid(-4_000, 0, 50_000),
+        rapid(-4_000, 0, 50_000),
+        feed(-4_000, 0, -1, 1),
+        rapid(-4_000, 0, 50_000),
+        rapid(-4_000, 0, 50_000),
+    ];
+    let plan = path(rt.alloc(), &plain())?;
+    assert_eq!(rt; plan.blocks(), blocks.as_slice());
+    assert_eq!(rt; *plan.def(), plain());
+    Ok(())
+}
