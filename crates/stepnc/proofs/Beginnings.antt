@@ -1,11 +1,11 @@
 -- Words that begin a line, and how many of them do.
-use Rattle.std.proofs.Common.{◌≡◌, ℕ, zero, suc, ◌+◌, ◌<◌, ◌≤◌, Bool, true, false, List, [], ◌∷◌, length, take, Option, Some, None, refl, sym, ap, ◌∙◌, arith, rules, inl, inr, add-one}
+use Rattle.std.proofs.Common.{◌≡◌, ℕ, zero, suc, ◌+◌, ◌<◌, ◌≤◌, Bool, true, false, List, [], ◌∷◌, length, take, Option, Some, None, refl, sym, ap, ◌∙◌, arith, rules, inl, inr}
 use Rattle.std.specs.Prelude.{◌&&◌, ◌||◌, ◌==◌, ◌⊎◌, slice_get, codes, MatchOption, IsSome, max, nat_le}
 use Rattle.std.proofs.lemmas.Bool.Decides.{nat_tests}
 use Rattle.std.specs.Str.{bytes_eq}
 use Rattle.std.proofs.lemmas.Bool.{eqb-true, eq-eqb}
 use Rattle.std.proofs.lemmas.List.{take_all}
-use Rattle.stepnc.specs.Words.{Form, begins, is_line, passes, AreFit, AreBadAt, begins_some, is_some_line, is_name, is_limit, value_of, replay_line, help_line, version_line, IsReplay}
+use Rattle.stepnc.specs.Words.{Form, begins, is_line, passes, AreFit, AreBadAt, is_name, is_limit, value_of, replay_line, help_line, version_line, IsReplay}
 
 pub no_test : (b : Bool) → b ≡ true → b ≡ false → ⊥
 no_test b p q = let e : true ≡ false = sym p ∙ q in absurd (cc)

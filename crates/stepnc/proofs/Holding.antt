@@ -1,5 +1,5 @@
 -- What an exchange holds, and what it doesn't.
-use Rattle.std.proofs.Common.{◌≡◌, ℕ, ◌≤◌, length, Bool, true, false, List, [], ◌∷◌, ◌++◌, map, Option, Some, None, Result, Ok, Err, refl, sym, ap, subst, ◌∙◌}
+use Rattle.std.proofs.Common.{◌≡◌, ℕ, ◌≤◌, length, false, List, map, Option, Some, None, Result, Ok, Err, sym, ap, subst, ◌∙◌}
 use Rattle.std.specs.Prelude.{nat_eq}
 use Rattle.std.specs.List.{list_all, IsDistinct}
 use Rattle.p21_parse.specs.declared.error.ReadErr.{ReadErr}

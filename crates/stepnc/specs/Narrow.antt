@@ -1,9 +1,9 @@
 -- What the first stage of the program runs: twelve keywords, and numbers that are short.
-use Rattle.std.specs.Prelude.{◌≡◌, ℕ, Bool, true, false, not, ◌&&◌, ◌==◌, nat_le, if◌then◌else◌, List, [], ◌∷◌, length, count_by}
+use Rattle.std.specs.Prelude.{ℕ, Bool, true, not, ◌&&◌, ◌==◌, nat_le, if◌then◌else◌, List, [], ◌∷◌, length, count_by}
 use Rattle.std.specs.List.{list_any, list_all}
 use Rattle.p21_lex.specs.declared.token.TokenKind.{TokenKind}
 use Rattle.p21_lex.specs.declared.token.TokenKind.TheVariants.{Int, Real}
-use Rattle.p21_parse.specs.Tree.{Tree, one, reference, list, typed, Trees, listed, PartTree, InstanceTree}
+use Rattle.p21_parse.specs.Tree.{Tree, one, reference, list, typed, listed, PartTree, InstanceTree}
 use Rattle.entity_types.specs.Class.{class_of, code_of}
 use Rattle.stepnc.specs.Words.{is_digit}
 

@@ -1,5 +1,5 @@
 -- The project that an exchange holds, at this stage: a main workplan of drilled holes.
-use Rattle.std.specs.Prelude.{◌≡◌, ℕ, ◌≤◌, ◌<◌, ◌⊎◌, Bool, true, false, ◌&&◌, nat_eq, List, [], ◌∷◌, length, map, Option, Some, None, option_map, option_and_then, is_ok, Result, Ok, Err}
+use Rattle.std.specs.Prelude.{◌≡◌, ℕ, ◌≤◌, Bool, true, ◌&&◌, nat_eq, List, [], ◌∷◌, length, map, Option, Some, None, option_map, option_and_then, is_ok}
 use Rattle.std.specs.List.{list_all, IsDistinct}
 use Rattle.std.specs.Result.{result_ok}
 use Rattle.path_blocks.specs.declared.block.Block.{Block}

@@ -1,20 +1,19 @@
 -- What the program's calls answer of a project.
-use Rattle.std.specs.Prelude.{◌≡◌, ℕ, Bool, true, false, nat_eq, List, [], ◌∷◌, map, Option, Some, None, Result, Ok, Err}
+use Rattle.std.specs.Prelude.{◌≡◌, ℕ, true, false, List, [], ◌∷◌, map, Option, Some, None, Result, Ok, Err}
 use Rattle.std.specs.Global.{Vec}
-use Rattle.std.specs.List.{list_all, IsDistinct}
+use Rattle.std.specs.List.{list_all}
 use Rattle.p21_parse.specs.Tree.{InstanceTree, ExchangeTree}
 use Rattle.p21_parse.specs.PlainFile.{number_of}
 use Rattle.entity_types.specs.declared.entity.Entity.{Entity}
-use Rattle.entity_read.specs.Typed.{EntityTree, entity_of, typed_of}
+use Rattle.entity_read.specs.Typed.{entity_of}
 use Rattle.project_store.specs.Entities.{entity_at, numbers_of}
-use Rattle.step_def.specs.Condition.{is_drilled_hole}
 use Rattle.step_def.specs.DefOf.{def_of}
 use Rattle.run_core.specs.declared.step.Step.{Step}
 use Rattle.run_core.specs.PlainRun as plain
 use Rattle.stepnc.specs.declared.project.ProjectErr.{ProjectErr}
 use Rattle.stepnc.specs.declared.project.ProjectErr.TheVariants.{NotBuilt, NoMemory}
 use Rattle.stepnc.specs.declared.project.Project.{Project as Held}
-use Rattle.stepnc.specs.Project.{Project, IsProject, Holds, HoldsNone, all_typed, is_runnable, paths_in}
+use Rattle.stepnc.specs.Project.{Project, IsProject, Holds, HoldsNone, all_typed, is_runnable}
 
 -- the entities of the instances, or that some instance has none, unless memory ran out
 abbrev pub AllTyped : List InstanceTree → Result (Vec Entity) ProjectErr → Type 0

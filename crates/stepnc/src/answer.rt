@@ -18,7 +18,9 @@ use run_log::{Ending, Log};
 pub enum Answer {
     /// The words are bad at this place.
     BadWords(u32),
+    /// Which commands there are.
     Help,
+    /// Which program this is.
     Version,
     /// The file holds no project that can be run.
     NotBuilt,
@@ -29,7 +31,9 @@ pub enum Answer {
 /// Why there is no answer.
 #[derive(Clone, Copy, Debug, PartialEq, Eq)]
 pub enum Stop {
+    /// The project file could not be read.
     ReadFault,
+    /// Memory ran out.
     NoMemory,
 }
 

@@ -1,4 +1,4 @@
-use Rattle.std.proofs.Common.{◌≡◌, List, map, take, Some, ap, subst, arith}
+use Rattle.std.proofs.Common.{◌≡◌, List, map, Some, subst, arith}
 use Rattle.std.proofs.lemmas.Result.{err_from_is_err_and}
 use Rattle.std.proofs.lemmas.List.{take_all}
 use Rattle.p21_parse.specs.declared.exchange.Instance.{Instance}

@@ -1,4 +1,4 @@
-use Rattle.std.proofs.Common.{◌≡◌, List, Some, None, map, subst, sym}
+use Rattle.std.proofs.Common.{◌≡◌, List, Some, map, subst, sym}
 use Rattle.std.proofs.lemmas.Result.{err_from_is_err_and}
 use Rattle.p21_parse.specs.declared.exchange.Instance.{Instance}
 use Rattle.p21_parse.specs.View.{instance_of, exchange_of}

@@ -1,5 +1,4 @@
-use Rattle.std.proofs.Common.{◌≡◌, ◌≤◌, refl, arith, true, false, inl, inr}
-use Rattle.std.specs.Prelude.{◌⊎◌}
+use Rattle.std.proofs.Common.{true, false}
 use Rattle.stepnc.specs.Words.{replay_line, help_line, version_line}
 use Rattle.stepnc.proofs.Beginnings.{bad_at, whole_is_line, greatest}
 use Rattle.stepnc.proofs.words.command_of.Goals as goal

@@ -1,4 +1,4 @@
-use Rattle.std.proofs.Common.{◌≡◌, ℕ, List, refl, arith, Some, sym, ◌∙◌, ap, add-one, true, false}
+use Rattle.std.proofs.Common.{◌≡◌, refl, arith, Some, sym, ◌∙◌, ap, add-one, true, false}
 use Rattle.std.specs.Prelude.{slice_get}
 use Rattle.std.proofs.lemmas.Option.{slice_get_read}
 use Rattle.stepnc.specs.Commands.{forms_of}

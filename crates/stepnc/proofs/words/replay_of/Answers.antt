@@ -1,5 +1,5 @@
-use Rattle.std.proofs.Common.{◌≡◌, ℕ, List, Some, true, refl, arith, sym, ◌∙◌, ap, subst}
-use Rattle.std.specs.Prelude.{slice_get, IsSome}
+use Rattle.std.proofs.Common.{◌≡◌, ℕ, Some, refl, sym, ◌∙◌, ap, subst}
+use Rattle.std.specs.Prelude.{slice_get}
 use Rattle.std.proofs.lemmas.Option.{slice_get_read}
 use Rattle.stepnc.specs.Words.{is_limit, value_of, IsReplay}
 use Rattle.stepnc.proofs.Beginnings.{replay_shape, some_last, some_limit, limit_is}

@@ -1,4 +1,4 @@
-use Rattle.std.proofs.Common.{◌≡◌, ◌≤◌, arith, refl, get_or}
+use Rattle.std.proofs.Common.{arith, refl, get_or}
 use Rattle.stepnc.proofs.Digits.{digit_at, digit_range, value_more, bound_more, bound_few}
 use Rattle.stepnc.proofs.words.value_of.Goals as goal
 

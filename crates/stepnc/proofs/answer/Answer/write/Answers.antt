@@ -1,4 +1,4 @@
-use Rattle.std.proofs.Common.{◌≡◌, ℕ, List, OnErr, subst, ◌∙◌}
+use Rattle.std.proofs.Common.{ℕ, List, OnErr, subst, ◌∙◌}
 use Rattle.nc_outside.specs.Outside.{AppendsFront}
 use Rattle.stepnc.proofs.answer.Answer.write.Goals as goal
 
