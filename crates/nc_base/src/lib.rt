@@ -1,8 +1,9 @@
-//! What every layer of stepnc speaks in: numbers of instances, texts, lists, verdicts, and counters of steps.
+//! What every layer of stepnc speaks in: numbers of instances, texts, lists, lines, verdicts, and counters of steps.
 #![tactic(auto)]
 
 mod distinct;
 mod items;
+mod lines;
 mod memory;
 mod numbers;
 mod steps;
@@ -11,6 +12,7 @@ mod verdict;
 
 pub use distinct::are_distinct;
 pub use items::ItemList;
+pub use lines::{Line, put, put_number};
 pub use memory::NoMemory;
 pub use numbers::{Number, NumberList};
 pub use steps::Steps;

@@ -52,3 +52,20 @@ fn counters_take_no_bytes(rt: HostRuntime) {
     count_two::<Brand>(Blank::new(1));
     assert_eq!(rt; std::mem::size_of::<Steps<Brand>>(), 0);
 }
+
+#[test]
+fn numbers_are_told_apart(rt: HostRuntime) -> Result<(), Fail> {
+    assert!(rt; are_distinct(rt.alloc(), &[])?);
+    assert!(rt; are_distinct(rt.alloc(), &[3, 1, 2_147_483_647, 2])?);
+    assert!(rt; !are_distinct(rt.alloc(), &[3, 1, 2, 3])?);
+    Ok(())
+}
+
+#[test]
+fn lines_hold_words(rt: HostRuntime) {
+    let mut line = Line::new();
+    put(&mut line, b"D");
+    put_number(&mut line, 10);
+    put_number(&mut line, u32::MAX);
+    assert_eq!(rt; line.as_slice(), b"D 10 4294967295".as_slice());
+}

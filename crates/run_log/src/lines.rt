@@ -1,4 +1,4 @@
-//! Lines of a log, made on the stack.
+//! Lines of a log, made on the stack. The longest has under 256 bytes, since no number has more than 40 digits.
 
 ghost use Rattle.std.specs.Prelude.{◌≡◌, ◌+◌, ◌≤◌, ◌++◌, ◌∷◌, [], length, decimal};
 ghost use Rattle.std.specs.Fmt.{signed_decimal};
@@ -7,32 +7,9 @@ ghost use Rattle.run_log.specs.Line.{line as line_text};
 ghost use Rattle.run_log.specs.LogText.{block_words, entry_words, ending_word, entry_line, last_line};
 
 use crate::entry::{Ending, Entry};
-use arrayvec::ArrayVec;
 use itoa::Buffer;
+use nc_base::{Line, put, put_number};
 use path_blocks::Block;
-
-/// A line that is being made. The longest line has under 256 bytes, since no number has more than 40 digits.
-pub type Line = ArrayVec<u8, 256>;
-
-/// Puts bytes at the line's end.
-fn put(line: &mut Line, bytes: &[u8])
-    requires { array_vec_len line.old + length bytes.now ≤ 256 }
-    ensures items { line.new.items ≡ line.old.items ++ bytes.now }
-    ensures len { array_vec_len line.new ≡ array_vec_len line.old + length bytes.now }
-{
-    line.try_extend_from_slice(bytes).unwrap();
-}
-
-/// Puts a space and an instance number or a count at the line's end.
-fn put_number(line: &mut Line, n: u32)
-    requires { array_vec_len line.old + 41 ≤ 256 }
-    ensures items { line.new.items ≡ line.old.items ++ 32 ∷ decimal n }
-    ensures len { array_vec_len line.new ≤ array_vec_len line.old + 41 }
-{
-    let mut buffer = Buffer::new();
-    put(line, b" ");
-    put(line, buffer.format(n).as_bytes());
-}
 
 /// Puts a space and a length, speed or time at the line's end.
 fn put_length(line: &mut Line, n: i64)

@@ -8,8 +8,7 @@ ghost use Rattle.stepnc.specs.Texts.{bad_words_line, help_text, version_text};
 ghost use Rattle.stepnc.specs.Answer.{IsCountable, answer_text, answer_status};
 
 use crate::status::{ProjectReason, Status};
-use arrayvec::ArrayVec;
-use itoa::Buffer;
+use nc_base::{Line, put, put_number};
 use nc_outside::{Failed, Sink, put_all};
 use run_log::{Ending, Log};
 
@@ -44,26 +43,13 @@ const HELP: &[u8] =
 /// Which program this is.
 const VERSION: &[u8] = b"stepnc 0.1.0\n";
 
-/// A line that is being made.
-type Line = ArrayVec<u8, 64>;
-
-/// Puts bytes at the line's end.
-fn put(line: &mut Line, bytes: &[u8])
-    requires { array_vec_len line.old + length bytes.now ≤ 64 }
-    ensures items { line.new.items ≡ line.old.items ++ bytes.now }
-    ensures len { array_vec_len line.new ≡ array_vec_len line.old + length bytes.now }
-{
-    line.try_extend_from_slice(bytes).unwrap();
-}
-
 /// The line of words that are bad at a place.
 fn bad_words(place: u32) -> Line
     ensures { result.items ≡ bad_words_line place }
 {
     let mut line = Line::new();
-    let mut buffer = Buffer::new();
-    put(&mut line, b"refused BadWords ");
-    put(&mut line, buffer.format(place).as_bytes());
+    put(&mut line, b"refused BadWords");
+    put_number(&mut line, place);
     put(&mut line, b"\n");
     line
 }
