@@ -12,6 +12,7 @@ fn lists_grow_and_shrink(rt: HostRuntime) -> Result<(), Fail> {
     list.push(7)?;
     list.push(9)?;
     assert_eq!(rt; list.len(), 2);
+    assert_eq!(rt; *list.at(1), 9);
     assert_eq!(rt; list.as_slice(), [7, 9].as_slice());
     assert_eq!(rt; list.pop(), Some(9));
     assert_eq!(rt; list.pop(), Some(7));
@@ -20,6 +21,7 @@ fn lists_grow_and_shrink(rt: HostRuntime) -> Result<(), Fail> {
     let mut numbers = NumberList::new(rt.alloc());
     numbers.push(2_147_483_647)?;
     assert_eq!(rt; numbers.as_slice(), [2_147_483_647].as_slice());
+    assert_eq!(rt; numbers.at(0), 2_147_483_647);
     assert_eq!(rt; numbers.pop(), Some(2_147_483_647));
     assert!(rt; numbers.is_empty());
     Ok(())
@@ -66,6 +68,7 @@ fn lines_hold_words(rt: HostRuntime) {
     let mut line = Line::new();
     put(&mut line, b"D");
     put_number(&mut line, 10);
+    put_number(&mut line, 0);
     put_number(&mut line, u32::MAX);
-    assert_eq!(rt; line.as_slice(), b"D 10 4294967295".as_slice());
+    assert_eq!(rt; line.as_slice(), b"D 10 0 4294967295".as_slice());
 }
