@@ -1,3 +1,8 @@
+ghost use Rattle.std.specs.Prelude.{◌≡◌, true, false, pos, negsuc, [], ◌∷◌};
+ghost use Rattle.entity_types.specs.Fits.{fields_fit};
+ghost use Rattle.entity_types.specs.declared.class.Class.TheVariants as classes;
+ghost use Rattle.entity_types.specs.declared.field.Field.TheVariants.{Absent, Present, Ref, Value, Refs, Values};
+
 use super::*;
 use nc_base::NumberList;
 use std::test::Fail;
@@ -38,4 +43,102 @@ fn keywords(rt: HostRuntime) {
     assert_eq!(rt; class_of(b"!NC_SUM").code(), 26);
     assert_eq!(rt; class_of(b"AXIS2_PLACEMENT_3D").code(), 38);
     assert_eq!(rt; class_of(b"plane").code(), 61);
+}
+
+// Which fields fit, at the edges of their kinds.
+fn fitting()
+    ensures empty_list { fields_fit classes.Workplan (Refs [] ∷ Absent ∷ []) ≡ true }
+    ensures flag { fields_fit classes.Drilling (Present ∷ Absent ∷ Absent ∷ Absent ∷ Absent ∷ []) ≡ true }
+    ensures limit { fields_fit classes.NcConstant (Value (pos 1000000000000000) ∷ []) ≡ true }
+    ensures low_limit { fields_fit classes.NcConstant (Value (negsuc 999999999999999) ∷ []) ≡ true }
+    ensures two_numbers { fields_fit classes.Direction (Values 2 (pos 1) (negsuc 0) (pos 0) ∷ []) ≡ true }
+{}
+
+// Which don't.
+fn unfitting()
+    ensures empty_list { fields_fit classes.Parallel (Refs [] ∷ []) ≡ false }
+    ensures reference_missing { fields_fit classes.Project (Absent ∷ []) ≡ false }
+    ensures field_missing { fields_fit classes.Workplan (Refs [] ∷ []) ≡ false }
+    ensures field_too_many { fields_fit classes.SetMark (Absent ∷ []) ≡ false }
+    ensures no_flag { fields_fit classes.Project (Present ∷ []) ≡ false }
+    ensures past_the_limit { fields_fit classes.NcConstant (Value (pos 1000000000000001) ∷ []) ≡ false }
+    ensures no_numbers { fields_fit classes.Direction (Values 0 (pos 0) (pos 0) (pos 0) ∷ []) ≡ false }
+    ensures four_numbers { fields_fit classes.Direction (Values 4 (pos 0) (pos 0) (pos 0) ∷ []) ≡ false }
+    ensures past_the_count { fields_fit classes.Direction (Values 1 (pos 0) (pos 1) (pos 0) ∷ []) ≡ false }
+{}
+
+#[test]
+fn fields_of_kinds(rt: HostRuntime) -> Result<(), Fail> {
+    fitting();
+    unfitting();
+    let mut numbers = NumberList::new(rt.alloc());
+    numbers.push(8)?;
+    numbers.push(2_147_483_647)?;
+    let copy = Field::Refs(numbers).copy(rt.alloc())?;
+    assert_eq!(rt; copy.references(), [8, 2_147_483_647].as_slice());
+    Ok(())
+}
+
+// A target, the first and last class that it takes of a row of classes, and those before and behind.
+const TARGETS: [(Target, [Class; 2], [Class; 2]); 9] = [
+    (
+        Target::Workplan,
+        [Class::Workplan, Class::Workplan],
+        [Class::Project, Class::Parallel],
+    ),
+    (
+        Target::Executable,
+        [Class::Workplan, Class::Note],
+        [Class::Project, Class::Channel],
+    ),
+    (
+        Target::Channel,
+        [Class::Channel, Class::Channel],
+        [Class::Note, Class::NcVariable],
+    ),
+    (
+        Target::Variable,
+        [Class::NcVariable, Class::NcVariable],
+        [Class::Channel, Class::NcConstant],
+    ),
+    (
+        Target::Mark,
+        [Class::SetMark, Class::SetMark],
+        [Class::Assignment, Class::WaitForMark],
+    ),
+    (
+        Target::Value,
+        [Class::NcVariable, Class::NcConstant],
+        [Class::Channel, Class::ComparisonEqual],
+    ),
+    (
+        Target::Value,
+        [Class::NcSum, Class::NcProduct],
+        [Class::NotExpression, Class::RoundHole],
+    ),
+    (
+        Target::Condition,
+        [Class::ComparisonEqual, Class::NotExpression],
+        [Class::NcConstant, Class::NcSum],
+    ),
+    (
+        Target::Operation,
+        [Class::Drilling, Class::BottomAndSideFinishMilling],
+        [Class::Direction, Class::Bidirectional],
+    ),
+];
+
+#[test]
+fn targets(rt: HostRuntime) {
+    for (target, inside, outside) in TARGETS {
+        for class in inside {
+            assert!(rt; target.accepts(class));
+        }
+        for class in outside {
+            assert!(rt; !target.accepts(class));
+        }
+    }
+    assert!(rt; Target::Any.accepts(Class::Opaque));
+    assert!(rt; Target::Feature.accepts(Class::ClosedPocket));
+    assert!(rt; !Target::Feature.accepts(Class::LinearPath));
 }

@@ -48,3 +48,35 @@ fn a_fault_leaves_a_front(rt: HostRuntime) -> Result<(), Fail> {
     assert_eq!(rt; sink.bytes(), b"STEPNC-LOG 1\n".as_slice());
     Ok(())
 }
+
+#[test]
+fn each_block_has_its_words(rt: HostRuntime) -> Result<(), Fail> {
+    let log = [
+        Entry::Dispatch {
+            n: 2_147_483_647,
+            v: 1_000,
+        },
+        Entry::Block {
+            n: 2_147_483_647,
+            k: 19_999,
+            b: Block::Rapid {
+                x: -200_000_000,
+                y: 0,
+                z: 200_000_000,
+            },
+        },
+        Entry::Block {
+            n: 1,
+            k: 0,
+            b: Block::Dwell { ms: 1 },
+        },
+    ];
+    let mut sink = MemorySink::new(rt.alloc(), 1000)?;
+    write(&log, Ending::Limit, &mut sink)?;
+    write(&[], Ending::Done, &mut sink)?;
+    assert_eq!(rt;
+        sink.bytes(),
+        b"STEPNC-LOG 1\nD 2147483647 1000\nB 2147483647 19999 R -200000000 0 200000000\nB 1 0 W 1\nend limit 3\nSTEPNC-LOG 1\nend done 0\n".as_slice()
+    );
+    Ok(())
+}
