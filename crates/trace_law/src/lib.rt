@@ -5,3 +5,6 @@
 mod laws;
 
 pub use laws::whole_has_no_next;
+
+#[cfg(test)]
+mod tests;
