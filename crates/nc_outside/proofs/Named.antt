@@ -1,13 +1,13 @@
 -- The first file of a name, and what becomes of the others where one is replaced.
-use Rattle.std.proofs.Common.{◌≡◌, ℕ, zero, suc, ◌+◌, ◌<◌, ◌≤◌, ◌^◌, min, Bool, true, false, cond, List, [], ◌∷◌, ◌++◌, length, take, Option, Some, None, refl, sym, ap, subst, ◌∙◌, add-one, arith}
+use Rattle.std.proofs.Common.{◌≡◌, ℕ, zero, suc, ◌+◌, ◌<◌, ◌≤◌, ◌^◌, min, Bool, true, false, cond, ◌&&◌, ◌||◌, List, [], ◌∷◌, ◌++◌, length, take, Option, Some, None, refl, sym, ap, subst, ◌∙◌, add-one, arith}
 use Rattle.std.proofs.lemmas.Bool.Decides.{nat_tests}
-use Rattle.std.specs.Prelude.{slice_get, slice_set, IsSomeAnd, unwrap_or, if◌then◌else◌}
+use Rattle.std.specs.Prelude.{slice_get, slice_set, IsSomeAnd, unwrap_or, is_none, if◌then◌else◌}
 use Rattle.std.specs.Option.{option_map}
 use Rattle.std.specs.Str.{bytes_eq}
 use Rattle.std.proofs.lemmas.Slice.Eq.{bytes_eq-Decides}
 use Rattle.nc_outside.specs.Outside.{Rose}
 use Rattle.nc_outside.specs.declared.memory_files.MemoryFile.{MemoryFile}
-use Rattle.nc_outside.specs.MemoryState.{file_named, held, faults_in, one_more, IsFirst, Gives, CountsFault}
+use Rattle.nc_outside.specs.MemoryState.{file_named, held, faults_in, one_more, share_a_count, IsFirst, Gives, CountsFault}
 
 no_way : true ≡ false → ⊥
 no_way e = absurd (cc)
@@ -141,6 +141,24 @@ fault_rose old new i name absent counts first =
     let there = is_there old i name (slice_get old i) first.none_before refl first.here in
     let same : bytes_eq name name ≡ true = (bytes_eq-Decides name name).1 refl in
     rw ((counts name).1, same, there.1) (one_more_rose there.0.faults)
+
+raised_once : (b : Bool) (here there : Option MemoryFile) (absent : ℕ) → is_none here ≡ false → (b ≡ true → is_none there ≡ false)
+    → unwrap_or (cond b (option_map one_more (option_map (λ (f : MemoryFile). f.faults) there)) (option_map (λ (f : MemoryFile). f.faults) there)) absent
+    ≡ cond (b || (is_none here && is_none there)) (one_more (unwrap_or (option_map (λ (f : MemoryFile). f.faults) there) absent)) (unwrap_or (option_map (λ (f : MemoryFile). f.faults) there) absent)
+raised_once true here None absent is there = absurd (no_way (there refl))
+raised_once true here (Some g) absent is there = refl
+raised_once false here there absent is at = rw is refl
+
+is_not_none : (o : Option MemoryFile) (f : MemoryFile) → o ≡ Some f → is_none o ≡ false
+is_not_none o f e = rw e refl
+
+-- a read of a file that is there failed: its own count rose by one, and no other
+pub raised_here : (old new : List MemoryFile) (i : ℕ) (name : List ℕ) (absent : ℕ) → CountsFault old new name → IsFirst old name i
+    → (n : List ℕ) → unwrap_or (faults_in new n) absent ≡ cond (share_a_count old name n) (one_more (unwrap_or (faults_in old n) absent)) (unwrap_or (faults_in old n) absent)
+raised_here old new i name absent counts first n =
+    let there = is_there old i name (slice_get old i) first.none_before refl first.here in
+    rw (counts n).1 (raised_once (bytes_eq name n) (file_named old name) (file_named old n) absent (is_not_none _ there.0 there.1)
+    (λ t. is_not_none _ there.0 (rw (← same_bytes name n t) there.1)))
 
 pub saturated : (n m : ℕ) → n < 2 ^ 64 → m ≡ min (n + 1) 18446744073709551615 → m ≡ one_more n
 saturated n m lt e = grind (arith, nat_tests)

@@ -1,3 +1,4 @@
 pub mod Outside
 pub mod MemoryState
 pub mod SinkState
+pub mod Gathered

@@ -1,5 +1,5 @@
 -- What named texts in memory are seen as.
-use Rattle.std.specs.Prelude.{◌≡◌, ℕ, ◌+◌, nat_lt, ◌==◌, Bool, List, [], ◌∷◌, take, slice_get, Option, Some, None, unwrap_or, IsSomeAnd, if◌then◌else◌}
+use Rattle.std.specs.Prelude.{◌≡◌, ℕ, ◌+◌, nat_lt, ◌==◌, ◌&&◌, ◌||◌, Bool, List, [], ◌∷◌, take, slice_get, Option, Some, None, unwrap_or, is_none, IsSomeAnd, if◌then◌else◌}
 use Rattle.std.specs.List.{list_any}
 use Rattle.std.specs.Option.{option_map}
 use Rattle.std.specs.Str.{bytes_eq}
@@ -28,6 +28,10 @@ faults_in fs name = option_map (λ (f : MemoryFile). f.faults) (file_named fs na
 -- how many reads of the name failed; one count serves all names that aren't there
 abbrev pub faults_of : MemoryState → List ℕ → ℕ
 faults_of s name = unwrap_or (faults_in s.files name) s.absent_faults
+
+-- whether reads of two names are counted in one count: they are the same name, or neither is there
+abbrev pub share_a_count : List MemoryFile → List ℕ → List ℕ → Bool
+share_a_count fs a b = bytes_eq a b || (is_none (file_named fs a) && is_none (file_named fs b))
 
 -- one more, but at the end of the type
 abbrev pub one_more : ℕ → ℕ

@@ -1,7 +1,8 @@
 //! The host's files and standard output: the trusted edge. They tell nothing of contents.
 
-ghost use Rattle.std.specs.Prelude.{◌≡◌, ℕ, ◌≤◌, ◌<◌, ◌^◌, List, None, length, vec_len, vec_capacity, OnOk, OnErr};
-ghost use Rattle.nc_outside.specs.Outside.{Rose};
+ghost use Rattle.std.specs.Prelude.{◌≡◌, ℕ, ◌≤◌, ◌<◌, ◌^◌, List, [], None, Ok, length, take, vec_len, vec_capacity, OnOk, OnErr, IfOk};
+ghost use Rattle.nc_outside.specs.Outside.{Rose, Appends};
+ghost use Rattle.nc_outside.specs.Gathered.{put_so_far};
 ghost use Rattle.nc_outside.specs.declared.host.TheConstants.{BLOCK};
 
 use crate::files::{FileErr, Files};
@@ -50,7 +51,9 @@ fn read_file<R: rt::Files>(
 
 impl<'a, R: rt::Files> HostFiles<'a, R> {
     /// The files that this host has.
-    pub fn new(host: &'a R) -> HostFiles<'a, R> {
+    pub fn new(host: &'a R) -> HostFiles<'a, R>
+        ensures { result.faults ≡ 0 }
+    {
         HostFiles { host, faults: 0 }
     }
 }
@@ -89,7 +92,9 @@ pub struct HostSink<W: Write + Drop> {
 
 impl<W: Write + Drop> HostSink<W> {
     /// A sink that writes to `out`, with room for one block.
-    pub fn new(alloc: Global, out: W) -> Result<HostSink<W>, NoMemory> {
+    pub fn new(alloc: Global, out: W) -> Result<HostSink<W>, NoMemory>
+        ensures { IfOk result (λ s. (s.out ≡ out) × (s.block.items ≡ []) × (s.faults ≡ 0)) }
+    {
         Ok(HostSink {
             out,
             block: Vec::with_capacity(alloc, BLOCK)?,
@@ -101,7 +106,10 @@ impl<W: Write + Drop> HostSink<W> {
     pub fn flush(&mut self) -> Result<(), Failed>
         ensures counted { self.old.faults ≤ self.new.faults }
         ensures failed { OnErr result (Rose self.old.faults self.new.faults) }
-        ensures empty { OnOk result (vec_len self.new.block ≡ 0) }
+        ensures held { OnErr result (self.new.block.items ≡ self.old.block.items) }
+        ensures empty { OnOk result (self.new.block.items ≡ []) }
+        // Where the writer tells what it holds, the block is written behind it.
+        ensures written { OnOk result (Appends (W.contents self.old.out) (W.contents self.new.out) self.old.block.items) }
     {
         let written = self.out.write_all(self.block.as_slice());
         if written.is_err() || self.out.flush().is_err() {
@@ -118,7 +126,19 @@ impl<W: Write + Drop> Sink for HostSink<W> {
 
     ghost faults = { λ s. s.faults };
 
-    fn put(&mut self, piece: &[u8]) -> Result<usize, Failed> {
+    /// Gathers as much of the piece as fits into a block, and writes the block before it where it doesn't fit whole.
+    fn put(&mut self, piece: &[u8]) -> Result<usize, Failed>
+        ensures counted { self.old.faults ≤ self.new.faults }
+        ensures within { IfOk result (λ n. n ≤ length piece.now) }
+        ensures taken_front { IfOk result (λ n. Appends None None (take n piece.now)) }
+        ensures failed { OnErr result (Rose self.old.faults self.new.faults) }
+        ensures failed_takes_nothing { OnErr result (Appends None None []) }
+        ensures stuck { result ≡ Ok 0 → 0 < length piece.now → Rose self.old.faults self.new.faults }
+
+        // Where the writer tells what it holds, what is taken stands behind it and what was gathered.
+        ensures gathered { IfOk result (λ n. Appends (put_so_far (W.contents self.old.out) self.old.block.items) (put_so_far (W.contents self.new.out) self.new.block.items) (take n piece.now)) }
+        ensures held { OnErr result (self.new.block.items ≡ self.old.block.items) }
+    {
         if piece.len() > BLOCK - self.block.len() {
             self.flush()?;
         }

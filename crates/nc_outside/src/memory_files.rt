@@ -1,9 +1,9 @@
 //! Named texts in memory, for tests and for callers that have no files.
 
-ghost use Rattle.std.specs.Prelude.{◌≡◌, ℕ, ◌+◌, ◌≤◌, ◌<◌, ◌++◌, ◌∷◌, ◌⊎◌, ◌↔◌, List, [], length, Option, Some, None, IsTrue, IfSome, IfNone, IsNone, OnOk, OnErr, IsErrOf, if◌then◌else◌, slice_get, slice_set, min};
+ghost use Rattle.std.specs.Prelude.{◌≡◌, ◌≢◌, ℕ, ◌+◌, ◌≤◌, ◌<◌, ◌++◌, ◌∷◌, ◌⊎◌, ◌↔◌, List, [], length, Option, Some, None, IsTrue, IfSome, IfNone, IsNone, OnOk, OnErr, IsErrOf, if◌then◌else◌, slice_get, slice_set, min};
 ghost use Rattle.std.specs.Str.{bytes_eq};
 ghost use Rattle.nc_outside.specs.Outside.{Rose};
-ghost use Rattle.nc_outside.specs.MemoryState.{file_named, held, faults_of, IsFirst, Gives, CountsFault, is_listed};
+ghost use Rattle.nc_outside.specs.MemoryState.{file_named, held, faults_of, IsFirst, Gives, CountsFault, is_listed, one_more, share_a_count};
 
 use crate::files::{FileErr, Files};
 use nc_base::{NcText, NoMemory, NumberList};
@@ -129,6 +129,9 @@ impl Files for MemoryFiles {
         ensures failed { result ≡ Err FileErr.Failed → Rose (faults_of self.old name.now) (faults_of self.new name.now) }
 
         ensures fails { (result ≡ Err FileErr.Failed) ↔ (IsTrue (is_listed self.old.failing self.old.calls) ⊎ (held self.old.files name.now ≡ None)) }
+        // A read that fails counts one fault of this name, and none of any other; another read counts none.
+        ensures raises { result ≡ Err FileErr.Failed → (n : List ℕ) → faults_of self.new n ≡ (if share_a_count self.old.files name.now n then one_more (faults_of self.old n) else faults_of self.old n) }
+        ensures quiet { result ≢ Err FileErr.Failed → (n : List ℕ) → faults_of self.new n ≡ faults_of self.old n }
         ensures calls { self.new.calls ≡ min (self.old.calls + 1) 4294967295 }
         ensures failing { self.new.failing ≡ self.old.failing }
     {

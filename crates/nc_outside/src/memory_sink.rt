@@ -2,7 +2,7 @@
 
 ghost use Rattle.std.specs.Prelude.{◌≡◌, ℕ, ◌+◌, ◌-◌, ◌≤◌, ◌<◌, ◌++◌, ◌∷◌, ◌⊎◌, ◌↔◌, [], length, take, min, Some, IsTrue, OnOk, OnErr, IfOk, IsErr};
 ghost use Rattle.nc_outside.specs.Outside.{Rose, Appends};
-ghost use Rattle.nc_outside.specs.MemoryState.{is_listed};
+ghost use Rattle.nc_outside.specs.MemoryState.{is_listed, one_more};
 
 use crate::sink::{Failed, Sink};
 use nc_base::{NoMemory, NumberList};
@@ -77,6 +77,9 @@ impl Sink for MemorySink {
 
         ensures fits { IfOk result (λ n. n ≡ min (length piece.now) (self.old.room - length self.old.bytes)) }
         ensures fails { IsErr result ↔ (IsTrue (is_listed self.old.failing self.old.calls) ⊎ ((0 < length piece.now) × (self.old.room ≤ length self.old.bytes))) }
+        // A refusal counts one fault, and nothing else counts any.
+        ensures raises { OnErr result (self.new.faults ≡ one_more self.old.faults) }
+        ensures quiet { OnOk result (self.new.faults ≡ self.old.faults) }
         ensures calls { self.new.calls ≡ min (self.old.calls + 1) 4294967295 }
         ensures room { self.new.room ≡ self.old.room }
         ensures failing { self.new.failing ≡ self.old.failing }

@@ -1,3 +1,7 @@
+ghost use Rattle.std.specs.Prelude.{◌≡◌, Some, None, true, false, [], ◌∷◌};
+ghost use Rattle.nc_outside.specs.Outside.{Rose, Appends, AppendsFront};
+ghost use Rattle.nc_outside.specs.MemoryState.{one_more, is_listed, share_a_count};
+
 use super::*;
 use nc_base::NcText;
 use std::fs;
@@ -60,4 +64,36 @@ fn a_full_disk_is_a_fault_of_the_sink(rt: HostRuntime) -> Result<(), Fail> {
     assert_eq!(rt; put_all(&mut sink, b"STEPNC-LOG 1\n"), Ok(()));
     assert_eq!(rt; sink.flush(), Err(Failed));
     Ok(())
+}
+
+#[test]
+fn the_host_is_written_in_blocks(rt: HostRuntime) -> Result<(), Fail> {
+    let mut sink = HostSink::new(rt.alloc(), Vec::new(rt.alloc()))?;
+    assert_eq!(rt; put_all(&mut sink, &[7; 65_535]), Ok(()));
+    assert_eq!(rt; put_all(&mut sink, b"ab"), Ok(()));
+    assert_eq!(rt; put_all(&mut sink, &[8; 65_537]), Ok(()));
+    assert_eq!(rt; sink.flush(), Ok(()));
+    Ok(())
+}
+
+// Counts of faults, at the end of their type too, and what a sink has taken.
+fn counts_and_taken_bytes()
+    ensures rose { Rose 3 4 }
+    ensures stayed { Rose 3 3 → ⊥ }
+    ensures full { Rose 18446744073709551615 18446744073709551615 }
+    ensures below_full { Rose 18446744073709551614 18446744073709551614 → ⊥ }
+    ensures last { one_more 18446744073709551614 ≡ 18446744073709551615 }
+    ensures end { one_more 18446744073709551615 ≡ 18446744073709551615 }
+    ensures listed { is_listed (2 ∷ 0 ∷ []) 0 ≡ true }
+    ensures unlisted { is_listed (2 ∷ 0 ∷ []) 1 ≡ false }
+    ensures absent { share_a_count [] (65 ∷ []) (66 ∷ []) ≡ true }
+    ensures appended { Appends (Some (1 ∷ [])) (Some (1 ∷ 2 ∷ [])) (2 ∷ []) }
+    ensures lost { Appends (Some (1 ∷ [])) None [] → ⊥ }
+    ensures other { Appends (Some (1 ∷ [])) (Some (1 ∷ 3 ∷ [])) (2 ∷ []) → ⊥ }
+    ensures nothing { AppendsFront (Some []) (Some []) (2 ∷ []) }
+{}
+
+#[test]
+fn counts_are_worked_out() {
+    counts_and_taken_bytes();
 }

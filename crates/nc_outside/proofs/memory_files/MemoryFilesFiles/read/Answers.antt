@@ -4,7 +4,7 @@ use Rattle.std.proofs.lemmas.Option.{slice_get_read}
 use Rattle.std.proofs.lemmas.Result.{err_from_is_err_and}
 use Rattle.nc_outside.specs.MemoryState.{MemoryState, is_listed, held, faults_of, IsFirst}
 use Rattle.nc_outside.specs.Outside.{Rose}
-use Rattle.nc_outside.proofs.Named.{fault_counted, fault_rose, held_here, no_test}
+use Rattle.nc_outside.proofs.Named.{fault_counted, fault_rose, raised_here, held_here, no_test}
 use Rattle.nc_outside.proofs.memory_files.MemoryFilesFiles.read.Goals as goal
 
 pub returns-then-listed-clause-kept : goal.returns-then-listed-clause-kept
@@ -21,6 +21,11 @@ pub returns-then-listed-clause-failed : goal.returns-then-listed-clause-failed
 returns-then-listed-clause-failed c =
     let first : IsFirst c.self.inside.files.items c.args.name.now c.in-Some.i = rw (← c.deref.ensures.value, ← c.bytes.ensures) c.in-Some.ensures.found.1 in
     rw (← c.self.view_is) (λ _. fault_rose c.self.inside.files.items c.note_fault.new.files.items c.in-Some.i c.args.name.now c.self.inside.absent_faults (c.note_fault.ensures c.args.name.now first) first)
+
+pub returns-then-listed-clause-raises : goal.returns-then-listed-clause-raises
+returns-then-listed-clause-raises c =
+    let first : IsFirst c.self.inside.files.items c.args.name.now c.in-Some.i = rw (← c.deref.ensures.value, ← c.bytes.ensures) c.in-Some.ensures.found.1 in
+    rw (← c.self.view_is) (λ _ n. raised_here c.self.inside.files.items c.note_fault.new.files.items c.in-Some.i c.args.name.now c.self.inside.absent_faults (c.note_fault.ensures c.args.name.now first) first n)
 
 pub returns-then-listed-clause-fails : goal.returns-then-listed-clause-fails
 returns-then-listed-clause-fails c = rw (← c.self.view_is) ((λ _. inl (rw (← c.as_slice.ensures, ← c.contains-listed.ensures.value) c.if-listed.true)), (λ _. refl))
