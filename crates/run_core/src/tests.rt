@@ -1,3 +1,12 @@
+ghost use Rattle.std.specs.Prelude.{◌≡◌, Some, None, true, false, [], ◌∷◌, pos};
+ghost use Rattle.path_blocks.specs.declared.block.Block.TheVariants.{Dwell};
+ghost use Rattle.run_log.specs.declared.entry.Entry.TheVariants as entries;
+ghost use Rattle.run_log.specs.declared.entry.Ending.TheVariants as endings;
+ghost use Rattle.trace_law.specs.Exec.{Work, Plan, NoMore, Then};
+ghost use Rattle.run_core.specs.State.{is_open, blocks_since};
+ghost use Rattle.run_core.specs.Fits.{HasValues};
+ghost use Rattle.run_core.specs.Endings.{EndsSo};
+
 use super::*;
 use nc_base::Number;
 use path_blocks::{Block, Def, Shape};
@@ -129,4 +138,26 @@ fn two_steps_in_a_row(rt: HostRuntime) -> Result<(), Fail> {
         assert_eq!(rt; answer, ending, "limit {limit}");
     }
     Ok(())
+}
+
+// What the entries of a run say of its state, which values the next entry may have, and how a run ends.
+fn states_and_values()
+    ensures closed { is_open 10 [] ≡ false }
+    ensures open { is_open 10 (entries.Dispatch 10 0 ∷ entries.Block 10 0 (Dwell (pos 5)) ∷ []) ≡ true }
+    ensures other { is_open 7 (entries.Dispatch 10 0 ∷ []) ≡ false }
+    ensures ended { is_open 10 (entries.Dispatch 10 0 ∷ entries.End 10 ∷ []) ≡ false }
+    ensures counted { blocks_since 10 (entries.Dispatch 10 0 ∷ entries.Block 10 0 (Dwell (pos 5)) ∷ entries.Block 10 1 (Dwell (pos 5)) ∷ []) ≡ 2 }
+    ensures anew { blocks_since 10 (entries.Dispatch 10 0 ∷ entries.Block 10 0 (Dwell (pos 5)) ∷ entries.Dispatch 10 1 ∷ []) ≡ 0 }
+    ensures version { HasValues (λ _. None) [] (entries.Dispatch 10 1) → ⊥ }
+    ensures block { HasValues (λ _. Some (Dwell (pos 5) ∷ [])) [] (entries.Block 10 0 (Dwell (pos 5))) }
+    ensures no_block { HasValues (λ _. Some (Dwell (pos 5) ∷ [])) [] (entries.Block 10 1 (Dwell (pos 5))) → ⊥ }
+    ensures early_end { HasValues (λ _. Some (Dwell (pos 5) ∷ [])) (entries.Dispatch 10 0 ∷ []) (entries.End 10) → ⊥ }
+    ensures empty_plan { EndsSo (Plan (Some 2) NoMore) [] 1 endings.Done }
+    ensures not_done { EndsSo (Plan (Some 2) (Then (Work 10) NoMore)) (entries.Dispatch 10 0 ∷ []) 1 endings.Done → ⊥ }
+    ensures no_limit { EndsSo (Plan (Some 2) (Then (Work 10) NoMore)) [] 1 endings.Limit → ⊥ }
+{}
+
+#[test]
+fn definitions_are_worked_out() {
+    states_and_values();
 }
