@@ -6,3 +6,4 @@ pub mod SameEntity
 pub mod Holding
 pub mod Stepping
 pub mod Running
+pub mod Answering

@@ -76,6 +76,10 @@ IsReplay (w0 ∷ project ∷ w2 ∷ w3 ∷ w4 ∷ []) name limit =
     (is_line (w0 ∷ project ∷ w2 ∷ w3 ∷ w4 ∷ []) replay_line ≡ true) × (project ≡ name) × (value_of w4 ≡ limit)
 IsReplay _ name limit = ⊥
 
+-- the words name no file to read: they ask for no replay
+abbrev pub NameNoFile : List (List ℕ) → Type 0
+NameNoFile ws = (name : List ℕ) (limit : ℕ) → IsReplay ws name limit → ⊥
+
 -- the word is of the form that stands there, if one does
 abbrev pub passes : Option Form → List ℕ → Bool
 passes None w = false

@@ -3,6 +3,7 @@
 ghost use Rattle.std.specs.Prelude.{◌≡◌, ℕ, ◌≤◌, List, IfOk};
 ghost use Rattle.stepnc.specs.Answer.{IsCountable};
 ghost use Rattle.stepnc.specs.Answered.{AnswersOrStops, Answered, IsPut};
+ghost use Rattle.stepnc.specs.Words.{NameNoFile};
 
 use crate::answer::{Answer, Stop};
 use crate::replay::replay_file;
@@ -16,6 +17,7 @@ use std::alloc::Global;
 fn answer_to<F: Files>(alloc: Global, words: &[NcText], files: &mut F) -> Result<Answer, Stop>
     ensures kept { (n : List ℕ) → F.holds files.new n ≡ F.holds files.old n }
     ensures counted { (n : List ℕ) → F.faults files.old n ≤ F.faults files.new n }
+    ensures untouched { NameNoFile words.now → files.new ≡ files.old }
     ensures countable { IfOk result IsCountable }
     ensures answer { AnswersOrStops words.now (F.holds files.old) (F.faults files.old) (F.faults files.new) result }
 {
@@ -49,6 +51,8 @@ pub fn quick<F: Files, S: Sink>(
 ) -> Status
     ensures kept { (n : List ℕ) → F.holds files.new n ≡ F.holds files.old n }
     ensures counted { (n : List ℕ) → F.faults files.old n ≤ F.faults files.new n }
+    // Where the words name no file to read, none is read.
+    ensures untouched { NameNoFile words.now → files.new ≡ files.old }
     ensures sink_counted { S.faults sink.old ≤ S.faults sink.new }
     ensures answered { Answered words.now (F.holds files.old) (F.faults files.old) (F.faults files.new) (S.taken sink.old) (S.taken sink.new) (S.faults sink.old) (S.faults sink.new) result }
 {
@@ -69,6 +73,8 @@ pub fn top<R: AllocGlobal, F: Files, S: Sink, G: Gate>(
 ) -> Status
     ensures kept { (n : List ℕ) → F.holds files.new n ≡ F.holds files.old n }
     ensures counted { (n : List ℕ) → F.faults files.old n ≤ F.faults files.new n }
+    // Where the words name no file to read, none is read.
+    ensures untouched { NameNoFile words.now → files.new ≡ files.old }
     ensures sink_counted { S.faults sink.old ≤ S.faults sink.new }
     ensures answered { Answered words.now (F.holds files.old) (F.faults files.old) (F.faults files.new) (S.taken sink.old) (S.taken sink.new) (S.faults sink.old) (S.faults sink.new) result }
 {
