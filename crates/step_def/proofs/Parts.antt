@@ -3,7 +3,7 @@ use Rattle.std.proofs.Common.{◌≡◌, Bool, true, false, ◌&&◌, ℤ, pos, 
 use Rattle.std.proofs.lemmas.Int.{ints, to_z-of_z}
 use Rattle.std.specs.Prelude.{FitsSigned}
 use Rattle.path_blocks.specs.Range.{is_within}
-use Rattle.step_def.specs.Numbers.{Numbers}
+use Rattle.path_blocks.specs.Numbers.{Numbers}
 use Rattle.step_def.specs.Ranges.{KeepsRanges}
 
 split : (a b : Bool) → (a && b) ≡ true → (a ≡ true) × (b ≡ true)
