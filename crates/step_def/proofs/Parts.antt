@@ -37,3 +37,6 @@ depth_back z f h = grind (arith, ints, to_z-of_z)
 
 pub bottom_back : (z0 depth result : ℤ) → FitsSigned w64 z0 → result ≡ depth → FitsSigned w64 depth → is_within (z0 -ℤ depth) ≡ true → to_z w64 (of_z w64 (to_z w64 (of_z w64 z0) -ℤ to_z w64 (of_z w64 result))) ≡ z0 -ℤ depth
 bottom_back z0 depth result f e g h = grind (arith, ints, to_z-of_z)
+
+pub depth_fits : (z : ℤ) → FitsSigned w64 z → is_within (neg_ℤ z) ≡ true → FitsSigned w64 (pos 0 -ℤ to_z w64 (of_z w64 z))
+depth_fits z f h = grind (arith, ints, to_z-of_z)
