@@ -1,0 +1,3 @@
+pub mod CutsLemmas
+pub mod Lengths
+pub mod Ranges

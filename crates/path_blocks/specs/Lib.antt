@@ -1,2 +1,11 @@
 pub mod Range
+pub mod Cuts
+pub mod Count
+pub mod Kind
+pub mod Numbers
+pub mod ShapeRanges
+pub mod PathDrill
+pub mod PathPlane
+pub mod PathPocket
 pub mod Path
+pub mod WithinPocket

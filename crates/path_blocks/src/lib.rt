@@ -2,10 +2,14 @@
 #![tactic(auto)]
 
 mod block;
+mod count;
+mod cuts;
 mod def;
 mod plan;
 
 pub use block::Block;
+pub use count::block_count;
+pub use cuts::{cut, cut_count};
 pub use def::{Def, Shape};
 pub use plan::Plan;
 

@@ -1,6 +1,6 @@
 //! A definition with its path.
 
-ghost use Rattle.std.specs.Prelude.{◌≡◌};
+ghost use Rattle.std.specs.Prelude.{◌≡◌, ◌≤◌, length};
 ghost use Rattle.path_blocks.specs.Path.{path_of};
 
 use crate::block::Block;
@@ -44,7 +44,8 @@ impl Plan {
 
     /// The blocks of its path, in order.
     pub fn blocks(&self) -> &[Block]
-        ensures { result.now ≡ path_of self.now }
+        ensures exact { result.now ≡ path_of self.now }
+        ensures few { length result.now ≤ 20000 }
     {
         self.blocks.as_slice()
     }

@@ -1,8 +1,10 @@
 //! The path of a drilled hole.
 #![tactic(auto)]
 
-ghost use Rattle.std.specs.Prelude.{◌≡◌, ◌++◌, IfOk, OnOk};
-ghost use Rattle.path_blocks.specs.Path.{down_into, dwell_blocks, path_drill, up_from};
+ghost use Rattle.std.specs.Prelude.{◌≡◌, ◌++◌, IfOk, IsTrue, OnOk};
+ghost use Rattle.path_blocks.specs.Kind.{is_drill};
+ghost use Rattle.path_blocks.specs.Numbers.{numbers_of};
+ghost use Rattle.path_blocks.specs.PathDrill.{down_into, dwell_blocks, path_drill, up_from};
 
 use nc_base::NoMemory;
 use path_blocks::{Block, Def, Plan, Shape};
@@ -20,7 +22,7 @@ fn push_dwell(blocks: &mut Vec<Block>, dwell: i64) -> Result<(), NoMemory>
 
 /// Puts the tool, the move over the place and down to the retract plane, and the feed to the bottom.
 fn push_down(blocks: &mut Vec<Block>, def: &Def, x: i64, y: i64) -> Result<(), NoMemory>
-    ensures { OnOk result (blocks.new.items ≡ blocks.old.items ++ down_into def.now x y) }
+    ensures { OnOk result (blocks.new.items ≡ blocks.old.items ++ down_into (numbers_of def.now) x y) }
 {
     blocks.push(Block::Tool {
         tool: def.tool,
@@ -39,7 +41,7 @@ fn push_down(blocks: &mut Vec<Block>, def: &Def, x: i64, y: i64) -> Result<(), N
 
 /// Puts the moves back up to the retract plane and to the security plane.
 fn push_up(blocks: &mut Vec<Block>, def: &Def, x: i64, y: i64) -> Result<(), NoMemory>
-    ensures { OnOk result (blocks.new.items ≡ blocks.old.items ++ up_from def.now x y) }
+    ensures { OnOk result (blocks.new.items ≡ blocks.old.items ++ up_from (numbers_of def.now) x y) }
 {
     blocks.push(Block::Rapid { x, y, z: def.ret })?;
     blocks.push(Block::Rapid { x, y, z: def.sec })?;
@@ -48,9 +50,9 @@ fn push_up(blocks: &mut Vec<Block>, def: &Def, x: i64, y: i64) -> Result<(), NoM
 
 /// The blocks of a hole at x and y.
 fn blocks_of(alloc: Global, def: &Def, x: i64, y: i64, dwell: i64) -> Result<Vec<Block>, NoMemory>
-    ensures { IfOk result (λ blocks. blocks.items ≡ path_drill def.now x y dwell) }
+    ensures { IfOk result (λ blocks. blocks.items ≡ path_drill (numbers_of def.now) x y dwell) }
 {
-    let mut blocks = Vec::with_capacity(alloc, 7)?;
+    let mut blocks = Vec::with_capacity(alloc, def.count() as usize)?;
     push_down(&mut blocks, def, x, y)?;
     push_dwell(&mut blocks, dwell)?;
     push_up(&mut blocks, def, x, y)?;
@@ -60,10 +62,12 @@ fn blocks_of(alloc: Global, def: &Def, x: i64, y: i64, dwell: i64) -> Result<Vec
 /// The path of a definition whose shape is a drilled hole: over the place, down to the retract plane, feed to the bottom,
 /// dwell there if the definition says so, and back up. The rule is this profile's.
 pub fn path(alloc: Global, def: &Def) -> Result<Plan, NoMemory>
+    requires { IsTrue (is_drill def.now.shape) }
     ensures { IfOk result (λ plan. plan ≡ def.now) }
 {
     match def.shape {
         Shape::Drill { x, y, dwell } => Ok(Plan::new(*def, blocks_of(alloc, def, x, y, dwell)?)),
+        Shape::Plane { .. } | Shape::Pocket { .. } => unreachable!(),
     }
 }
 

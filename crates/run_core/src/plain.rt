@@ -12,7 +12,7 @@ ghost use Rattle.run_core.specs.PlainRun.{cut_from, entries_of, numbers_of, work
 
 use crate::step::Step;
 use nc_base::{NoMemory, Number};
-use path_blocks::Block;
+use path_blocks::{Block, Def, Shape};
 use run_log::{Ending, Entry, Log};
 use std::alloc::Global;
 use trace_law::whole_has_no_next;
@@ -48,13 +48,24 @@ fn put_blocks(log: &mut Log, n: Number, blocks: &[Block], limit: u32) -> Result<
     Ok(true)
 }
 
+/// The plan of a definition, by its shape.
+fn plan_of(alloc: Global, def: &Def) -> Result<path_blocks::Plan, NoMemory>
+    ensures { IfOk result (λ plan. plan ≡ def.now) }
+{
+    match def.shape {
+        Shape::Drill { .. } => path_drill::path(alloc, def),
+        Shape::Plane { .. } => path_plane::path(alloc, def),
+        Shape::Pocket { .. } => path_pocket::path(alloc, def),
+    }
+}
+
 /// Puts the entries of a step: its dispatch, its blocks, its end.
 fn put_step(alloc: Global, log: &mut Log, step: &Step, limit: u32) -> Result<bool, NoMemory>
     requires { length log.old ≤ limit }
     ensures { IfOk result (Grows limit log.old (entries_of step.now) log.new) }
 {
     let n = step.number;
-    let plan = path_drill::path(alloc, &step.def)?;
+    let plan = plan_of(alloc, &step.def)?;
     if !put(log, Entry::Dispatch { n, v: 0 }, limit)? {
         return Ok(false);
     }

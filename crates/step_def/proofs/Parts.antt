@@ -3,7 +3,7 @@ use Rattle.std.proofs.Common.{◌≡◌, Bool, true, false, ◌&&◌, ℤ, pos, 
 use Rattle.std.proofs.lemmas.Int.{ints, to_z-of_z}
 use Rattle.std.specs.Prelude.{FitsSigned}
 use Rattle.path_blocks.specs.Range.{is_within}
-use Rattle.step_def.specs.Numbers.{Numbers}
+use Rattle.path_blocks.specs.Numbers.{Numbers}
 use Rattle.step_def.specs.Ranges.{KeepsRanges}
 
 split : (a b : Bool) → (a && b) ≡ true → (a ≡ true) × (b ≡ true)
@@ -37,3 +37,6 @@ depth_back z f h = grind (arith, ints, to_z-of_z)
 
 pub bottom_back : (z0 depth result : ℤ) → FitsSigned w64 z0 → result ≡ depth → FitsSigned w64 depth → is_within (z0 -ℤ depth) ≡ true → to_z w64 (of_z w64 (to_z w64 (of_z w64 z0) -ℤ to_z w64 (of_z w64 result))) ≡ z0 -ℤ depth
 bottom_back z0 depth result f e g h = grind (arith, ints, to_z-of_z)
+
+pub depth_fits : (z : ℤ) → FitsSigned w64 z → is_within (neg_ℤ z) ≡ true → FitsSigned w64 (pos 0 -ℤ to_z w64 (of_z w64 z))
+depth_fits z f h = grind (arith, ints, to_z-of_z)

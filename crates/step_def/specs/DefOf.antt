@@ -3,7 +3,8 @@ use Rattle.std.specs.Prelude.{◌≡◌, ℕ, Option, Result, Ok, Err, refl}
 use Rattle.entity_types.specs.declared.entity.Entity.{Entity}
 use Rattle.path_blocks.specs.declared.def.Def.{Def}
 use Rattle.step_def.specs.declared.fault.DefFault.{DefFault}
-use Rattle.step_def.specs.Numbers.{Numbers, numbers_at}
+use Rattle.path_blocks.specs.Numbers.{Numbers}
+use Rattle.step_def.specs.Numbers.{numbers_at}
 use Rattle.step_def.specs.Ranges.{KeepsRanges, def_with}
 use Rattle.step_def.specs.Sound.{keeps_ranges}
 

@@ -1,9 +1,9 @@
 -- The numbers of a definition.
 use Rattle.std.specs.Prelude.{ℕ, ℤ, pos, ◌+ℤ◌, ◌-ℤ◌, Option, Result, Ok}
 use Rattle.std.specs.Option.{option_map_or}
-use Rattle.path_blocks.specs.declared.def.Def.{Def}
 use Rattle.path_blocks.specs.declared.def.Shape.{Shape}
 use Rattle.path_blocks.specs.declared.def.Shape.TheVariants.{Drill}
+use Rattle.path_blocks.specs.Numbers.{Numbers}
 use Rattle.entity_types.specs.declared.entity.Entity.{Entity}
 use Rattle.step_def.specs.declared.fault.DefFault.{DefFault}
 use Rattle.step_def.specs.declared.found.Figure.{Figure}
@@ -15,22 +15,6 @@ use Rattle.step_def.specs.declared.found.Walk.{Walk}
 use Rattle.step_def.specs.Steps.{◌>>=◌}
 use Rattle.step_def.specs.Walk.{found, walk_of}
 use Rattle.step_def.specs.Faults.{depth_of, walk_check}
-
--- a definition without the ranges that its type keeps
-pub record Numbers : Type 0 where
-  pub tool : ℕ
-  pub spindle : ℤ
-  pub feed : ℤ
-  pub sec : ℤ
-  pub ret : ℤ
-  pub z0 : ℤ
-  pub bottom : ℤ
-  pub axial : ℤ
-  pub shape : Shape
-
--- the numbers of a definition
-abbrev pub numbers_of : Def → Numbers
-numbers_of d = record { tool = d.tool; spindle = d.spindle; feed = d.feed; sec = d.sec; ret = d.ret; z0 = d.z0; bottom = d.bottom; axial = d.axial; shape = d.shape }
 
 -- a number that may be left out
 abbrev pub or_else : ℤ → Option Figure → ℤ

@@ -1,10 +1,11 @@
 -- The ranges that the numbers of a definition keep.
-use Rattle.std.specs.Prelude.{◌∷◌, [], ◌<ℤ◌, IsTrue}
+use Rattle.std.specs.Prelude.{◌∷◌, [], ◌<ℤ◌, IsTrue, nat_le}
 use Rattle.std.specs.List.{list_all}
 use Rattle.std.specs.Int.{is_positive}
 use Rattle.path_blocks.specs.Range.{is_within, fits_shape}
 use Rattle.path_blocks.specs.declared.def.Def.{Def}
-use Rattle.step_def.specs.Numbers.{Numbers}
+use Rattle.path_blocks.specs.Count.{block_count}
+use Rattle.path_blocks.specs.Numbers.{Numbers}
 
 -- the numbers keep the ranges of a definition
 pub record KeepsRanges (x : Numbers) : Type 0 where
@@ -13,6 +14,7 @@ pub record KeepsRanges (x : Numbers) : Type 0 where
   pub cuts : IsTrue (is_positive x.axial)
   pub downwards : x.bottom <ℤ x.z0
   pub shaped : IsTrue (fits_shape x.shape)
+  pub few : IsTrue (nat_le (block_count x.z0 x.bottom x.axial x.shape) 20000)
 
 -- the definition with these numbers
 abbrev pub def_with : (x : Numbers) → KeepsRanges x → Def
@@ -31,4 +33,5 @@ def_with x keeps = record {
   cuts = keeps.cuts;
   downwards = keeps.downwards;
   shaped = keeps.shaped;
+  few = keeps.few;
 }

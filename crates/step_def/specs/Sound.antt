@@ -1,5 +1,5 @@
 -- What a walk without a fault comes down to keeps the ranges of a definition.
-use Rattle.std.specs.Prelude.{◌≡◌, ℕ, ℤ, pos, negsuc, neg_ℤ, ◌+ℤ◌, ◌-ℤ◌, ◌<ℤ◌, int_le, Bool, true, false, cond, not, ◌&&◌, IfSome, List, [], ◌∷◌, Option, Some, None, option_map, Result, Ok, Err, refl, ⊤}
+use Rattle.std.specs.Prelude.{◌≡◌, ℕ, ℤ, pos, negsuc, neg_ℤ, ◌+ℤ◌, ◌-ℤ◌, ◌<ℤ◌, int_lt, int_le, nat_le, if◌then◌else◌, Bool, true, false, cond, not, ◌&&◌, IfSome, List, [], ◌∷◌, Option, Some, None, option_map, Result, Ok, Err, refl, ⊤}
 use Rattle.std.specs.Option.{option_map_or}
 use Rattle.std.proofs.Common.{subst, arith}
 use Rattle.std.proofs.lemmas.Int.{ints}
@@ -18,7 +18,8 @@ use Rattle.step_def.specs.declared.found.Walk.{Walk}
 use Rattle.step_def.specs.Steps.{◌>>=◌}
 use Rattle.step_def.specs.Faults.{all_positive, all_in_range, is_in_range, unless, directions_check, positives, ranges, walk_check, unsigned}
 use Rattle.step_def.specs.Walk.{found, walk_of}
-use Rattle.step_def.specs.Numbers.{Numbers, or_else, numbers_by, numbers_from, numbers_at}
+use Rattle.path_blocks.specs.Numbers.{Numbers}
+use Rattle.step_def.specs.Numbers.{or_else, numbers_by, numbers_from, numbers_at}
 use Rattle.step_def.specs.Ranges.{KeepsRanges}
 
 abbrev done : {A : Type 0} → A → Result A DefFault
@@ -101,6 +102,12 @@ each_in_range (Some x ∷ xs) e =
     let h = test_ok (is_in_range x) (all_in_range xs) (OutOfRange x.number x.position) e in
     (h.0, each_in_range xs h.1)
 
+-- ---- the blocks
+
+drilled : (b : Bool) → nat_le (if b then 7 else 6) 20000 ≡ true
+drilled true = refl
+drilled false = refl
+
 -- ---- the ranges
 
 -- the numbers of a walk keep the ranges
@@ -123,6 +130,7 @@ keeps walk (Hole diameter) (Drilling dwell) p r = record {
       (both _ _ (within_sized walk.placement.point.y r.1.1.0)
       (both _ _ (dwell_within dwell (unsigned_fact dwell r.1.1.1.1.1.1.1.1.1.0)) refl)))
       (dwell_at_least_zero dwell (unsigned_fact dwell r.1.1.1.1.1.1.1.1.1.0));
+  few = drilled (int_lt (pos 0) (or_else (pos 0) dwell));
 }
 
 -- what a walk without a fault comes down to keeps the ranges

@@ -5,7 +5,8 @@ ghost use Rattle.entity_types.specs.declared.class.Class.TheVariants.{RoundHole}
 ghost use Rattle.step_def.specs.Steps.{Gives};
 ghost use Rattle.step_def.specs.Walk.{is_of, is_drilling};
 ghost use Rattle.step_def.specs.Faults.{depth_of};
-ghost use Rattle.step_def.specs.Numbers.{or_else, retract_height, shape_of, numbers_of, numbers_from, numbers_at};
+ghost use Rattle.path_blocks.specs.Numbers.{numbers_of};
+ghost use Rattle.step_def.specs.Numbers.{or_else, retract_height, shape_of, numbers_from, numbers_at};
 ghost use Rattle.step_def.specs.Ranges.{KeepsRanges};
 ghost use Rattle.step_def.specs.Condition.{is_drilled_hole, refers_to};
 ghost use Rattle.step_def.specs.DefOf.{def_of};

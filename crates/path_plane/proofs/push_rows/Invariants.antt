@@ -1,0 +1,9 @@
+use Rattle.std.proofs.Common.{◌≡◌, ◌++◌, take}
+use Rattle.std.specs.List.{flat_map}
+use Rattle.path_blocks.specs.Numbers.{numbers_of}
+use Rattle.path_blocks.specs.PathPlane.{row, rows}
+use Rattle.path_plane.specs.Facing.{face_of}
+use Rattle.path_plane.proofs.push_rows.Given as goal
+
+abbrev pub invariant-loop-index : goal.invariant-loop-index
+invariant-loop-index l = l.blocks.items ≡ l.initial.blocks.items ++ flat_map (row (numbers_of l.def) (face_of l.facing) l.z) (take l.index (rows (face_of l.facing)))

@@ -1,0 +1,146 @@
+//! The rows of a planar face.
+
+ghost use Rattle.std.specs.Prelude.{IsTrue};
+ghost use Rattle.path_blocks.specs.declared.def.Shape.TheVariants.{Plane};
+ghost use Rattle.path_blocks.specs.Range.{fits_shape};
+
+use path_blocks::{cut, cut_count};
+
+/// The numbers of a planar face, as its shape has them.
+#[derive(Clone, Copy)]
+pub(crate) struct Facing {
+    pub(crate) x: i64,
+    pub(crate) y: i64,
+    pub(crate) ux: i64,
+    pub(crate) uy: i64,
+    pub(crate) length: i64,
+    pub(crate) width: i64,
+    pub(crate) step: i64,
+    pub(crate) both: bool,
+    pub(crate) ghost fits: { IsTrue (fits_shape (Plane x y ux uy length width step both)) },
+}
+
+impl Facing {
+    ghost use Rattle.std.specs.Prelude.{◌≡◌, ◌<◌, ◌≤◌, ◌+◌, ◌*ℤ◌, length, slice_get, Some, unsigned_abs};
+    ghost use Rattle.path_blocks.specs.Cuts.{cut_count};
+    ghost use Rattle.path_blocks.specs.PathPlane.{far_end, is_run_back, last_end, near_end, row_end, row_start, rows};
+    ghost use Rattle.path_plane.specs.Facing.{face_of};
+
+    /// The near end of the row so far across the course.
+    pub(crate) fn near_end(&self, offset: u64) -> (i64, i64)
+        requires { offset ≤ 200000000 }
+        ensures exact { result ≡ near_end (face_of self.now) offset }
+        ensures near_x { unsigned_abs result.0 ≤ 400000000 }
+        ensures near_y { unsigned_abs result.1 ≤ 400000000 }
+    {
+        if self.uy == 0 {
+            (self.x, self.y + offset as i64)
+        } else {
+            (self.x + offset as i64, self.y)
+        }
+    }
+
+    /// How far the far end of a row lies from its near end, along x and along y.
+    fn along(&self) -> (i64, i64)
+        ensures x { result.0 ≡ self.now.ux *ℤ self.now.length }
+        ensures y { result.1 ≡ self.now.uy *ℤ self.now.length }
+        ensures short_x { unsigned_abs result.0 ≤ 200000000 }
+        ensures short_y { unsigned_abs result.1 ≤ 200000000 }
+    {
+        (self.ux * self.length, self.uy * self.length)
+    }
+
+    /// The far end of the row so far across the course.
+    fn far_end(&self, offset: u64) -> (i64, i64)
+        requires { offset ≤ 200000000 }
+        ensures { result ≡ far_end (face_of self.now) offset }
+    {
+        let (x, y) = self.near_end(offset);
+        let (dx, dy) = self.along();
+        (x + dx, y + dy)
+    }
+
+    /// Whether the row with this index is run back.
+    fn is_run_back(&self, index: u64) -> bool
+        ensures { result ≡ is_run_back (face_of self.now) index }
+    {
+        self.both && index % 2 == 1
+    }
+
+    /// Where the row with this index and offset begins.
+    pub(crate) fn row_start(&self, index: u64, offset: u64) -> (i64, i64)
+        requires { offset ≤ 200000000 }
+        ensures { result ≡ row_start (face_of self.now) index offset }
+    {
+        if self.is_run_back(index) {
+            self.far_end(offset)
+        } else {
+            self.near_end(offset)
+        }
+    }
+
+    /// Where the row with this index and offset ends.
+    pub(crate) fn row_end(&self, index: u64, offset: u64) -> (i64, i64)
+        requires { offset ≤ 200000000 }
+        ensures { result ≡ row_end (face_of self.now) index offset }
+    {
+        if self.is_run_back(index) {
+            self.near_end(offset)
+        } else {
+            self.far_end(offset)
+        }
+    }
+
+    /// How far apart the rows lie.
+    fn row_step(&self) -> u64
+        ensures exact { result ≡ unsigned_abs self.now.step }
+        ensures positive { 0 < result }
+    {
+        self.step.unsigned_abs()
+    }
+
+    /// How far the face reaches across the course.
+    fn breadth(&self) -> u64
+        ensures exact { result ≡ unsigned_abs self.now.width }
+        ensures positive { 0 < result }
+        ensures narrow { result ≤ 200000000 }
+    {
+        self.width.unsigned_abs()
+    }
+
+    /// The index of the last row, which lies at the far side of the face.
+    fn last_row(&self) -> u64
+        ensures exact { result ≡ cut_count (unsigned_abs self.now.step) (unsigned_abs self.now.width) }
+        ensures rows { result + 1 ≡ length (rows (face_of self.now)) }
+        ensures few { result ≤ 200000000 }
+    {
+        cut_count(self.row_step(), self.breadth())
+    }
+
+    /// How many rows lie side by side.
+    pub(crate) fn row_count(&self) -> u64
+        ensures { result ≡ length (rows (face_of self.now)) }
+    {
+        self.last_row() + 1
+    }
+
+    /// How far across the course the row with this index lies.
+    pub(crate) fn offset(&self, index: u64) -> u64
+        requires { index < length (rows (face_of self.now)) }
+        ensures exact { slice_get (rows (face_of self.now)) index ≡ Some (index, result) }
+        ensures within { result ≤ 200000000 }
+    {
+        if index == 0 {
+            0
+        } else {
+            cut(self.row_step(), self.breadth(), index - 1)
+        }
+    }
+
+    /// Where the last row ends.
+    pub(crate) fn last_end(&self) -> (i64, i64)
+        ensures { result ≡ last_end (face_of self.now) }
+    {
+        self.row_end(self.last_row(), self.breadth())
+    }
+}

@@ -1,0 +1,83 @@
+//! The rings of a pocket.
+
+ghost use Rattle.std.specs.Prelude.{IsTrue};
+ghost use Rattle.path_blocks.specs.declared.def.Shape.TheVariants.{Pocket};
+ghost use Rattle.path_blocks.specs.Range.{fits_shape};
+
+/// The sides of a rectangle.
+#[derive(Clone, Copy)]
+pub(crate) struct Corners {
+    pub(crate) left: i64,
+    pub(crate) low: i64,
+    pub(crate) right: i64,
+    pub(crate) high: i64,
+}
+
+/// The numbers of a pocket, as its shape has them.
+#[derive(Clone, Copy)]
+pub(crate) struct Inset {
+    pub(crate) left: i64,
+    pub(crate) low: i64,
+    pub(crate) right: i64,
+    pub(crate) high: i64,
+    pub(crate) radial: i64,
+    pub(crate) ghost fits: { IsTrue (fits_shape (Pocket left low right high radial)) },
+}
+
+impl Inset {
+    ghost use Rattle.std.specs.Prelude.{◌≡◌, ◌<◌, ◌≤◌, ◌+◌, ◌*◌, ◌-ℤ◌, min, unsigned_abs};
+    ghost use Rattle.path_blocks.specs.PathPocket.{innermost, ring};
+    ghost use Rattle.path_pocket.specs.Inset.{rectangle_between, rectangle_of};
+
+    /// How far apart the rings lie.
+    fn ring_step(&self) -> u64
+        ensures exact { result ≡ unsigned_abs self.now.radial }
+        ensures positive { 0 < result }
+        ensures narrow { result ≤ 200000000 }
+    {
+        self.radial.unsigned_abs()
+    }
+
+    /// How long the lesser side is.
+    fn least_side(&self) -> u64
+        ensures exact { result ≡ min (unsigned_abs (self.now.right -ℤ self.now.left)) (unsigned_abs (self.now.high -ℤ self.now.low)) }
+    {
+        (self.right - self.left)
+            .unsigned_abs()
+            .min((self.high - self.low).unsigned_abs())
+    }
+
+    /// The number of the innermost ring.
+    pub(crate) fn innermost(&self) -> u64
+        ensures exact { result ≡ innermost (rectangle_of self.now) self.now.radial }
+        ensures few { result ≤ 400000000 }
+    {
+        self.least_side() / (2 * self.ring_step())
+    }
+
+    /// The sides of the rectangle.
+    pub(crate) fn corners(&self) -> Corners
+        ensures { rectangle_between result ≡ rectangle_of self.now }
+    {
+        Corners {
+            left: self.left,
+            low: self.low,
+            right: self.right,
+            high: self.high,
+        }
+    }
+
+    /// The ring with this number, from the rectangle itself inwards.
+    pub(crate) fn ring(&self, number: u64) -> Corners
+        requires { number ≤ innermost (rectangle_of self.now) self.now.radial }
+        ensures { rectangle_between result ≡ ring (rectangle_of self.now) self.now.radial number }
+    {
+        let by = (number * self.ring_step()) as i64;
+        Corners {
+            left: self.left + by,
+            low: self.low + by,
+            right: self.right - by,
+            high: self.high - by,
+        }
+    }
+}
