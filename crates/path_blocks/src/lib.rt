@@ -6,12 +6,14 @@ mod count;
 mod cuts;
 mod def;
 mod plan;
+mod step;
 
 pub use block::Block;
 pub use count::block_count;
 pub use cuts::{cut, cut_count};
 pub use def::{Def, Shape};
 pub use plan::Plan;
+pub use step::Step;
 
 #[cfg(test)]
 mod tests;

@@ -8,7 +8,7 @@ use Rattle.std.proofs.lemmas.List.{take-append-drop, take-append-le, take_all}
 use Rattle.path_blocks.specs.declared.block.Block.{Block}
 use Rattle.run_log.specs.declared.entry.Entry.{Entry}
 use Rattle.run_log.specs.declared.entry.Entry.TheVariants as entries
-use Rattle.run_core.specs.declared.step.Step.{Step}
+use Rattle.path_blocks.specs.declared.step.Step.{Step}
 use Rattle.run_core.specs.PlainRun.{cut_from, segment, entries_of, Grows}
 
 pub grows_none : (limit : ℕ) (old : List Entry) → length old ≤ limit → Grows limit old [] old true

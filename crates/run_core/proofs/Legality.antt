@@ -12,7 +12,7 @@ use Rattle.trace_law.specs.Exec.{Exec, Plan}
 use Rattle.trace_law.specs.Of.{has, number_of, AreDistinct}
 use Rattle.trace_law.specs.Whole.{Whole}
 use Rattle.trace_law.specs.Next.{next}
-use Rattle.run_core.specs.declared.step.Step.{Step}
+use Rattle.path_blocks.specs.declared.step.Step.{Step}
 use Rattle.run_core.specs.State.{is_open}
 use Rattle.run_core.specs.Fits.{IsEnabled}
 use Rattle.run_core.specs.Legal.{Legal}

@@ -14,7 +14,7 @@ use Rattle.trace_law.specs.Of.{has, number_of, is_of, only, joined, AreDistinct}
 use Rattle.trace_law.specs.Whole.{IsWork, Whole, EachWhole}
 use Rattle.trace_law.specs.Part.{Part, InOrder}
 use Rattle.trace_law.specs.Next.{next_in_order}
-use Rattle.run_core.specs.declared.step.Step.{Step}
+use Rattle.path_blocks.specs.declared.step.Step.{Step}
 use Rattle.run_core.specs.State.{is_open}
 use Rattle.run_core.specs.Fits.{HasValues}
 use Rattle.run_core.specs.PlainRun.{segment, entries_of, numbers_of, works, GivePaths}

@@ -5,7 +5,7 @@ use Rattle.path_blocks.specs.Path.{path_of}
 use Rattle.run_log.specs.declared.entry.Entry.{Entry}
 use Rattle.run_log.specs.declared.entry.Entry.TheVariants as entries
 use Rattle.trace_law.specs.Exec.{Work, Execs, NoMore, Then}
-use Rattle.run_core.specs.declared.step.Step.{Step}
+use Rattle.path_blocks.specs.declared.step.Step.{Step}
 
 -- the entries of these blocks of n, counted from k
 abbrev pub cut_from : ℕ → ℕ → List Block → List Entry

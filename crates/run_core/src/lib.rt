@@ -2,10 +2,10 @@
 #![tactic(auto)]
 
 mod plain;
-mod step;
+mod planning;
 
 pub use plain::run;
-pub use step::Step;
+pub use planning::plan_of;
 
 #[cfg(test)]
 mod tests;

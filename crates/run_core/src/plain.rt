@@ -10,9 +10,9 @@ ghost use Rattle.run_core.specs.Legal.{Legal};
 ghost use Rattle.run_core.specs.Endings.{EndsSo};
 ghost use Rattle.run_core.specs.PlainRun.{cut_from, entries_of, numbers_of, works, GivePaths, Grows};
 
-use crate::step::Step;
+use crate::planning::plan_of;
 use nc_base::{NoMemory, Number};
-use path_blocks::{Block, Def, Shape};
+use path_blocks::{Block, Step};
 use run_log::{Ending, Entry, Log};
 use std::alloc::Global;
 use trace_law::whole_has_no_next;
@@ -46,17 +46,6 @@ fn put_blocks(log: &mut Log, n: Number, blocks: &[Block], limit: u32) -> Result<
         }
     }
     Ok(true)
-}
-
-/// The plan of a definition, by its shape.
-fn plan_of(alloc: Global, def: &Def) -> Result<path_blocks::Plan, NoMemory>
-    ensures { IfOk result (λ plan. plan ≡ def.now) }
-{
-    match def.shape {
-        Shape::Drill { .. } => path_drill::path(alloc, def),
-        Shape::Plane { .. } => path_plane::path(alloc, def),
-        Shape::Pocket { .. } => path_pocket::path(alloc, def),
-    }
 }
 
 /// Puts the entries of a step: its dispatch, its blocks, its end.

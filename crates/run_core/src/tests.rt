@@ -9,7 +9,7 @@ ghost use Rattle.run_core.specs.Endings.{EndsSo};
 
 use super::*;
 use nc_base::Number;
-use path_blocks::{Block, Def, Shape};
+use path_blocks::{Block, Def, Shape, Step};
 use run_log::{Ending, Entry};
 use std::test::Fail;
 

@@ -5,7 +5,6 @@ use Rattle.std.proofs.lemmas.List.{take-append-le, take-append-drop, append-nil}
 use Rattle.std.proofs.lemmas.Grind.{flat_map-append}
 use Rattle.std.specs.List.{flat_map}
 use Rattle.std.specs.Prelude.{OnOk, OnErr}
-use Rattle.run_log.specs.declared.entry.Entry.{Entry}
 use Rattle.run_log.specs.Line.{line}
 use Rattle.nc_outside.specs.Outside.{Appends, AppendsFront}
 
@@ -27,7 +26,7 @@ pub put_twice : (old mid new x y z : List ℕ) → mid ≡ old ++ x → new ≡ 
 put_twice old mid new x y z first second both = second ∙ ap (λ (m : List ℕ). m ++ y) first ∙ append_assoc old x y ∙ ap (λ (m : List ℕ). old ++ m) both
 
 -- the first i lines were put, and then the next one
-pub one_more : (f : Entry → List ℕ) (start : List ℕ) (t : List Entry) (i : ℕ) (d : Entry) → i < length t → start ++ flat_map f (take (i + 1) t) ≡ (start ++ flat_map f (take i t)) ++ f (get_or t i d)
+pub one_more : {X : Type 0} (f : X → List ℕ) (start : List ℕ) (t : List X) (i : ℕ) (d : X) → i < length t → start ++ flat_map f (take (i + 1) t) ≡ (start ++ flat_map f (take i t)) ++ f (get_or t i d)
 one_more f start t i d lt =
     let e = get_or t i d in
     let next : take (i + 1) t ≡ take i t ++ (e ∷ []) = rw add-one (take-suc t i d lt) in
@@ -35,20 +34,20 @@ one_more f start t i d lt =
     rw lines (sym (append_assoc start (flat_map f (take i t)) (f e)))
 
 -- behind the first i lines stand the next one and the others
-pub lines_split : (f : Entry → List ℕ) (start : List ℕ) (t : List Entry) (i : ℕ) (d : Entry) (tail : List ℕ) → i < length t
+pub lines_split : {X : Type 0} (f : X → List ℕ) (start : List ℕ) (t : List X) (i : ℕ) (d : X) (tail : List ℕ) → i < length t
     → (start ++ flat_map f (take i t)) ++ (f (get_or t i d) ++ (flat_map f (drop (i + 1) t) ++ tail)) ≡ start ++ (flat_map f t ++ tail)
 lines_split f start t i d tail lt =
     let e = get_or t i d in
     let rest : drop i t ≡ e ∷ drop (i + 1) t = rw add-one (drop-cons t i d lt) in
     let whole : flat_map f t ≡ flat_map f (take i t) ++ (f e ++ flat_map f (drop (i + 1) t)) =
-    ap (flat_map f) (sym (take-append-drop i t)) ∙ flat_map-append f (take i t) (drop i t) ∙ ap (λ (m : List Entry). flat_map f (take i t) ++ flat_map f m) rest in
+    ap (flat_map f) (sym (take-append-drop i t)) ∙ flat_map-append f (take i t) (drop i t) ∙ ap (λ m. flat_map f (take i t) ++ flat_map f m) rest in
     rw whole (simp append_assoc)
 
 pub point_and_feed : (old mid new x y z f : List ℕ) → mid ≡ old ++ (32 ∷ x ++ (32 ∷ y ++ 32 ∷ z)) → new ≡ mid ++ 32 ∷ f → new ≡ old ++ (32 ∷ x ++ (32 ∷ y ++ (32 ∷ z ++ 32 ∷ f)))
 point_and_feed old mid new x y z f first second = rw (second, first) (simp append_assoc)
 
 -- the words of a feed, and the end of their line
-pub feed_line : (old new x y z f : List ℕ) → new ≡ old ++ (32 ∷ 70 ∷ (32 ∷ x ++ (32 ∷ y ++ (32 ∷ z ++ 32 ∷ f)))) → new ++ 10 ∷ [] ≡ old ++ 32 ∷ line ((70 ∷ []) ∷ x ∷ y ∷ z ∷ f ∷ [])
+pub feed_line : (old new x y z f : List ℕ) → new ≡ old ++ (70 ∷ (32 ∷ x ++ (32 ∷ y ++ (32 ∷ z ++ 32 ∷ f)))) → new ++ 10 ∷ [] ≡ old ++ line ((70 ∷ []) ∷ x ∷ y ∷ z ∷ f ∷ [])
 feed_line old new x y z f made = rw made (simp append_assoc)
 
 -- what holds of an Ok, and what follows from it
@@ -61,5 +60,5 @@ on_err (Ok x) p f = tt
 on_err (Err e) p f = f p
 
 -- all lines were put
-pub all_lines : (f : Entry → List ℕ) (start : List ℕ) (t : List Entry) (i : ℕ) (tail : List ℕ) → length t ≡ i → (start ++ flat_map f (take i t)) ++ tail ≡ start ++ (flat_map f t ++ tail)
+pub all_lines : {X : Type 0} (f : X → List ℕ) (start : List ℕ) (t : List X) (i : ℕ) (tail : List ℕ) → length t ≡ i → (start ++ flat_map f (take i t)) ++ tail ≡ start ++ (flat_map f t ++ tail)
 all_lines f start t i tail e = rw (← e, take-length t) (append_assoc start (flat_map f t) tail)

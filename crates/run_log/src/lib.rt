@@ -6,7 +6,7 @@ mod lines;
 mod writing;
 
 pub use entry::{Ending, Entry, Log};
-pub use writing::{WriteErr, write};
+pub use writing::{WriteErr, write, write_blocks};
 
 #[cfg(test)]
 mod tests;

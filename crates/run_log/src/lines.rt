@@ -4,6 +4,7 @@ ghost use Rattle.std.specs.Prelude.{◌≡◌, ◌+◌, ◌≤◌, ◌++◌, ◌
 ghost use Rattle.std.specs.Fmt.{signed_decimal};
 ghost use Rattle.arrayvec.specs.ArrayVec.{array_vec_len};
 ghost use Rattle.run_log.specs.Line.{line as line_text};
+ghost use Rattle.run_log.specs.BlocksText.{block_line};
 ghost use Rattle.run_log.specs.LogText.{block_words, entry_words, ending_word, entry_line, last_line};
 
 use crate::entry::{Ending, Entry};
@@ -43,28 +44,28 @@ fn put_feed(line: &mut Line, x: i64, y: i64, z: i64, f: i64)
     put_length(line, f);
 }
 
-/// Puts the words of a block at the line's end, a space before each.
+/// Puts the words of a block at the line's end, a space before each but the first.
 fn put_block(line: &mut Line, block: Block)
     requires { array_vec_len line.old + 169 ≤ 256 }
-    ensures items { line.new.items ++ 10 ∷ [] ≡ line.old.items ++ 32 ∷ line_text (block_words block) }
+    ensures items { line.new.items ++ 10 ∷ [] ≡ line.old.items ++ line_text (block_words block) }
     ensures len { array_vec_len line.new ≤ array_vec_len line.old + 169 }
 {
     match block {
         Block::Tool { tool, spindle } => {
-            put(line, b" T");
+            put(line, b"T");
             put_number(line, tool);
             put_length(line, spindle);
         }
         Block::Rapid { x, y, z } => {
-            put(line, b" R");
+            put(line, b"R");
             put_point(line, x, y, z);
         }
         Block::Feed { x, y, z, f } => {
-            put(line, b" F");
+            put(line, b"F");
             put_feed(line, x, y, z, f);
         }
         Block::Dwell { ms } => {
-            put(line, b" W");
+            put(line, b"W");
             put_length(line, ms);
         }
     }
@@ -86,6 +87,7 @@ pub fn of_entry(entry: &Entry) -> Line
             put(&mut line, b"B");
             put_number(&mut line, n);
             put_number(&mut line, k);
+            put(&mut line, b" ");
             put_block(&mut line, b);
         }
         Entry::End { n } => {
@@ -93,6 +95,17 @@ pub fn of_entry(entry: &Entry) -> Line
             put_number(&mut line, n);
         }
     }
+    put(&mut line, b"\n");
+    line
+}
+
+/// The line of a block alone.
+#[tactic(auto, unfolding(crate::specs::BlocksText::block_line))]
+pub fn of_block(block: Block) -> Line
+    ensures { result.items ≡ block_line block }
+{
+    let mut line = Line::new();
+    put_block(&mut line, block);
     put(&mut line, b"\n");
     line
 }

@@ -80,3 +80,35 @@ fn each_block_has_its_words(rt: HostRuntime) -> Result<(), Fail> {
     );
     Ok(())
 }
+
+#[test]
+fn blocks_have_a_line_each(rt: HostRuntime) -> Result<(), Fail> {
+    let blocks = [
+        Block::Tool {
+            tool: 44,
+            spindle: 20000,
+        },
+        Block::Rapid {
+            x: 0,
+            y: -1,
+            z: 30000,
+        },
+        Block::Feed {
+            x: 10000,
+            y: 20000,
+            z: -15000,
+            f: 40,
+        },
+        Block::Dwell { ms: 250 },
+    ];
+    let mut sink = MemorySink::new(rt.alloc(), 1000)?;
+    write_blocks(&blocks, &mut sink)?;
+    assert_eq!(rt;
+        sink.bytes(),
+        b"T 44 20000\nR 0 -1 30000\nF 10000 20000 -15000 40\nW 250\n".as_slice()
+    );
+    let mut small = MemorySink::new(rt.alloc(), 15)?;
+    assert_eq!(rt; write_blocks(&blocks, &mut small), Err(WriteErr::Failed));
+    assert_eq!(rt; small.bytes(), b"T 44 20000\nR 0 ".as_slice());
+    Ok(())
+}

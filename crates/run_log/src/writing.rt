@@ -1,12 +1,14 @@
-//! Writing a log.
+//! Writing a log, and blocks by themselves.
 
 ghost use Rattle.std.specs.Prelude.{◌≡◌, ◌≤◌, ◌<◌, ◌^◌, length, OnOk, OnErr};
 ghost use Rattle.nc_outside.specs.Outside.{Rose, Appends, AppendsFront};
+ghost use Rattle.run_log.specs.BlocksText.{blocks_text};
 ghost use Rattle.run_log.specs.LogText.{text_of};
 
 use crate::entry::{Ending, Entry};
 use crate::lines;
 use nc_outside::{Failed, Sink, put_all};
+use path_blocks::Block;
 
 /// Why a log was not written whole.
 #[derive(Clone, Copy, Debug, PartialEq, Eq)]
@@ -24,6 +26,29 @@ pub fn write<S: Sink>(log: &[Entry], ending: Ending, sink: &mut S) -> Result<(),
     ensures failed_takes_front { OnErr result (AppendsFront (S.taken sink.old) (S.taken sink.new) (text_of log.now ending)) }
 {
     put_lines(log, ending, sink).map_err(|_| WriteErr::Failed)
+}
+
+/// Writes blocks by themselves: each line is put as one piece. It takes no memory.
+pub fn write_blocks<S: Sink>(blocks: &[Block], sink: &mut S) -> Result<(), WriteErr>
+    ensures counted { S.faults sink.old ≤ S.faults sink.new }
+    ensures ok { OnOk result (Appends (S.taken sink.old) (S.taken sink.new) (blocks_text blocks.now)) }
+    ensures failed { OnErr result (Rose (S.faults sink.old) (S.faults sink.new)) }
+    ensures failed_takes_front { OnErr result (AppendsFront (S.taken sink.old) (S.taken sink.new) (blocks_text blocks.now)) }
+{
+    put_blocks(blocks, sink).map_err(|_| WriteErr::Failed)
+}
+
+/// Puts a line for each block.
+fn put_blocks<S: Sink>(blocks: &[Block], sink: &mut S) -> Result<(), Failed>
+    ensures counted { S.faults sink.old ≤ S.faults sink.new }
+    ensures ok { OnOk result (Appends (S.taken sink.old) (S.taken sink.new) (blocks_text blocks.now)) }
+    ensures failed { OnErr result (Rose (S.faults sink.old) (S.faults sink.new)) }
+    ensures failed_takes_front { OnErr result (AppendsFront (S.taken sink.old) (S.taken sink.new) (blocks_text blocks.now)) }
+{
+    for block in blocks {
+        put_all(sink, lines::of_block(*block).as_slice())?;
+    }
+    Ok(())
 }
 
 /// Puts the first line, a line for each entry, and the last line.

@@ -11,7 +11,7 @@ use Rattle.run_log.specs.declared.entry.Entry.{Entry}
 use Rattle.run_log.specs.declared.entry.Ending.{Ending}
 use Rattle.trace_law.specs.Exec.{Exec, Work, Plan, Execs, Then}
 use Rattle.trace_law.specs.Of.{has, AreDistinct}
-use Rattle.run_core.specs.declared.step.Step.{Step}
+use Rattle.path_blocks.specs.declared.step.Step.{Step}
 use Rattle.run_core.specs.Legal.{Legal}
 use Rattle.run_core.specs.Endings.{EndsSo}
 use Rattle.run_core.specs.PlainRun.{numbers_of, works, GivePaths}

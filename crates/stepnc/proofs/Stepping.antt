@@ -6,7 +6,7 @@ use Rattle.std.proofs.lemmas.List.{take_all, map-append}
 use Rattle.entity_types.specs.declared.entity.Entity.{Entity}
 use Rattle.project_store.specs.Entities.{entity_at}
 use Rattle.step_def.specs.DefOf.{def_of}
-use Rattle.run_core.specs.declared.step.Step.{Step}
+use Rattle.path_blocks.specs.declared.step.Step.{Step}
 use Rattle.run_core.specs.PlainRun.{numbers_of}
 use Rattle.stepnc.specs.Project.{is_runnable}
 use Rattle.stepnc.specs.Projects.{IsStepAt, HaveDefs}

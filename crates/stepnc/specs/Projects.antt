@@ -8,7 +8,7 @@ use Rattle.entity_types.specs.declared.entity.Entity.{Entity}
 use Rattle.entity_read.specs.Typed.{entity_of}
 use Rattle.project_store.specs.Entities.{entity_at, numbers_of}
 use Rattle.step_def.specs.DefOf.{def_of}
-use Rattle.run_core.specs.declared.step.Step.{Step}
+use Rattle.path_blocks.specs.declared.step.Step.{Step}
 use Rattle.run_core.specs.PlainRun as plain
 use Rattle.stepnc.specs.declared.project.ProjectErr.{ProjectErr}
 use Rattle.stepnc.specs.declared.project.ProjectErr.TheVariants.{NotBuilt, NoMemory}

@@ -16,7 +16,7 @@ use entity_types::{Entity, Field};
 use nc_base::{NoMemory, Number, Steps, are_distinct};
 use p21_parse::{Exchange, Instance, ReadErr};
 use project_store::{Entities, Store, StoreErr};
-use run_core::Step;
+use path_blocks::Step;
 use std::alloc::{AllocError, AllocFailed, Global};
 use std::marker::Brand;
 use std::sync::ledger::{Blank, Ledger};

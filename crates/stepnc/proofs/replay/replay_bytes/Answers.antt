@@ -1,7 +1,7 @@
 use Rattle.std.proofs.Common.{refl, sym, subst, List}
 use Rattle.run_core.specs.PlainRun.{numbers_of}
 use Rattle.stepnc.specs.Projects.{model_of, HaveDefs}
-use Rattle.run_core.specs.declared.step.Step.{Step}
+use Rattle.path_blocks.specs.declared.step.Step.{Step}
 use Rattle.stepnc.proofs.Running.{are_distinct, is_run}
 use Rattle.stepnc.proofs.replay.replay_bytes.Goals as goal
 

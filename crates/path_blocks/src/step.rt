@@ -1,7 +1,7 @@
 //! A workingstep that is to be run.
 
+use crate::def::Def;
 use nc_base::Number;
-use path_blocks::Def;
 
 /// A workingstep and its definition.
 #[derive(Clone, Copy, Debug, PartialEq, Eq)]
