@@ -1,5 +1,5 @@
 -- A text that is put in several pieces.
-use Rattle.std.proofs.Common.{◌≡◌, ℕ, ◌+◌, ◌-◌, ◌≤◌, ◌<◌, List, ◌++◌, length, take, drop, Option, Some, None, refl, sym, ap, subst, ◌∙◌, append_assoc, arith, length-drop}
+use Rattle.std.proofs.Common.{◌≡◌, ℕ, ◌+◌, ◌-◌, ◌≤◌, List, ◌++◌, length, take, drop, Option, Some, None, subst, append_assoc, arith, length-drop}
 use Rattle.std.proofs.Math.Seq.{take-add, take-length}
 use Rattle.nc_outside.specs.Outside.{Appends}
 

@@ -6,3 +6,4 @@ pub mod Reaching
 pub mod Rising
 pub mod PutLemmas
 pub mod Sound
+pub mod Least

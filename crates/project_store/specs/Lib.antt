@@ -4,3 +4,4 @@ pub mod Reach
 pub mod Inserts
 pub mod Put
 pub mod Resolved
+pub mod Least

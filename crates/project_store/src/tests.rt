@@ -69,6 +69,7 @@ fn build(alloc: Global, a: Entity, b: Entity, c: Entity) -> Result<Store, StoreE
 #[test]
 fn faults(rt: HostRuntime) -> Result<(), Fail> {
     let alloc = rt.alloc();
+    least_faults();
     let none = build(alloc, opaque(alloc, 1), opaque(alloc, 2), opaque(alloc, 9));
     assert_eq!(rt; none.err(), Some(StoreErr::NoProject));
     let many = build(

@@ -1,4 +1,4 @@
-use Rattle.std.proofs.Common.{◌≡◌, refl, sym, None, ◌∙◌}
+use Rattle.std.proofs.Common.{◌≡◌, refl, None, ◌∙◌}
 use Rattle.nc_outside.specs.MemoryState.{IsFirst, file_named}
 use Rattle.nc_outside.proofs.Named.{added_held, added_faults}
 use Rattle.nc_outside.proofs.memory_files.MemoryFiles.add.Goals as goal

@@ -1,9 +1,8 @@
-use Rattle.std.proofs.Common.{◌≡◌, Some, None, refl, ap, length, sym, subst, arith, inl, inr, true, false}
+use Rattle.std.proofs.Common.{◌≡◌, Some, refl, ap, length, arith, inl, inr}
 use Rattle.std.specs.Prelude.{slice_get}
 use Rattle.std.proofs.lemmas.Option.{slice_get_read}
 use Rattle.std.proofs.lemmas.Result.{err_from_is_err_and}
-use Rattle.nc_outside.specs.MemoryState.{MemoryState, is_listed, held, faults_of, IsFirst}
-use Rattle.nc_outside.specs.Outside.{Rose}
+use Rattle.nc_outside.specs.MemoryState.{held, IsFirst}
 use Rattle.nc_outside.proofs.Named.{fault_counted, fault_rose, raised_here, held_here, no_test}
 use Rattle.nc_outside.proofs.memory_files.MemoryFilesFiles.read.Goals as goal
 

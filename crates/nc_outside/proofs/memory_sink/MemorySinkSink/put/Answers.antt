@@ -1,4 +1,4 @@
-use Rattle.std.proofs.Common.{◌≡◌, refl, arith, inl, inr}
+use Rattle.std.proofs.Common.{refl, arith, inl, inr}
 use Rattle.std.proofs.lemmas.Bool.Decides.{nat_tests}
 use Rattle.nc_outside.proofs.memory_sink.MemorySinkSink.put.Goals as goal
 use Rattle.nc_outside.proofs.memory_sink.MemorySinkSink.put.Goals.{then-listed-via-then-listed, then-listed-via-else-listed+then-not-is_empty, then-fits-eq0, else-fits-eq0}
