@@ -11,3 +11,8 @@ pub mod Words
 pub mod LayoutLemmas
 pub mod NumberLemmas
 pub mod PlainLemmas
+pub mod Moves
+pub mod Marks
+pub mod Listing
+pub mod Parting
+pub mod Heading

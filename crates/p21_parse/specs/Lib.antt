@@ -11,3 +11,4 @@ pub mod Places
 pub mod Refused
 pub mod PlainFile
 pub mod Parse
+pub mod Source

@@ -4,10 +4,14 @@
 mod distinct;
 mod error;
 mod exchange;
+mod header;
 mod layout;
 mod param;
+mod parameters;
 mod parse;
+mod parts;
 mod reading;
+mod source;
 
 pub use error::ReadErr;
 pub use exchange::{Exchange, Instance, InstanceList, Part, PartList};
