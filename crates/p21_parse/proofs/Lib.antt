@@ -11,3 +11,4 @@ pub mod Words
 pub mod LayoutLemmas
 pub mod NumberLemmas
 pub mod PlainLemmas
+pub mod Complete
