@@ -12,3 +12,4 @@ pub mod LayoutLemmas
 pub mod NumberLemmas
 pub mod PlainLemmas
 pub mod Complete
+pub mod Sound
