@@ -307,3 +307,118 @@ module _ (most m : ℕ) (tail : List Symbol) where
           let g = stepped 0 (length (keyword word ∷ ss)) (run most 0 stack ss) e in
           record { tree = []; rest = ss; ok = tt; spelled = ap (λ (w : List ℕ). keyword w ∷ ss) (sym ((bytes_eq-Decides (codes "ENDSEC") word).0 w)); fits = omega arith; goes = g.1; shorter = omega arith }
   instances_first (suc fuel) stack (s ∷ ss) h e = absurd cc
+
+  abbrev Counted : (Trees → List Symbol → List Symbol) → ℕ → List Item → List Symbol → Type 0
+  Counted each k stack ss = Found (λ ts. (count ts ≡ k) × AreParameters ts) each (λ ts. suc (nestings ts)) most 0 stack ss m tail
+
+  -- a parameter and so many more
+  with_counted : (each : Trees → List Symbol → List Symbol) (k : ℕ) (items stack : List Item) (ss : List Symbol) (x : Found IsParameter spell nesting most 1 items ss m tail) (y : Counted spell_more k stack x.rest) (whole : List Symbol)
+      → whole ≡ each (first x.tree y.tree) y.rest → length ss ≤ length whole → Found (λ ts. (count ts ≡ suc k) × AreParameters ts) each (λ ts. suc (nestings ts)) most 0 stack whole m tail
+  with_counted each k items stack ss x y whole e longer = record {
+    tree = first x.tree y.tree;
+    rest = y.rest;
+    ok = (omega (arith, y.ok.0), (x.ok, y.ok.1));
+    spelled = e;
+    fits = omega (arith, x.fits, y.fits);
+    goes = y.goes;
+    shorter = omega (arith, x.shorter, y.shorter);
+  }
+
+  counted_first : (k : ℕ) (stack : List Item) (ss : List Symbol) → 1 ≤ most → run most 1 (counted k stack) ss ≡ done m tail → Counted spell_more k stack ss
+  counted_first zero stack ss o e =
+      let a = fixed_first closing 1 stack ss e in
+      let end : length ss ≡ suc (length a.rest) = ap length a.is in
+      record { tree = none; rest = a.rest; ok = (refl, tt); spelled = a.is; fits = o; goes = a.goes; shorter = omega arith }
+  counted_first (suc k) stack ss o e =
+      let a = fixed_first comma 1 (parameter ∷ counted k stack) ss e in
+      let longer : length ss ≡ suc (length a.rest) = ap length a.is in
+      let x = splits (length a.rest + length a.rest) 1 (counted k stack) a.rest (omega arith) a.goes in
+      let y = counted_first k stack x.rest o x.goes in
+      with_counted spell_more k (counted k stack) stack a.rest x y ss (a.is ∙ ap (λ (more : List Symbol). comma ∷ more) (x.spelled ∙ ap (spell x.tree) y.spelled)) (omega arith)
+
+  -- the semicolon behind an entry of the header
+  entry_ended : (P : Trees → Type 0) (word : List ℕ) (stack : List Item) (ss whole : List Symbol) (x : Found P spell_list (λ ts. suc (nestings ts)) most 0 (fixed semicolon ∷ stack) ss m tail)
+      → whole ≡ keyword word ∷ opening ∷ ss → Found (λ p. (p.keyword ≡ word) × P p.parameters) spell_entry part_nesting most 0 stack whole m tail
+  entry_ended P word stack ss whole x is =
+      let a = fixed_first semicolon 0 stack x.rest x.goes in
+      let end : length x.rest ≡ suc (length a.rest) = ap length a.is in
+      let longer : length whole ≡ suc (suc (length ss)) = ap length is in
+      record {
+        tree = record { keyword = word; parameters = x.tree };
+        rest = a.rest;
+        ok = (refl, x.ok);
+        spelled = is ∙ ap (λ (more : List Symbol). keyword word ∷ opening ∷ more) (x.spelled ∙ ap (spell_list x.tree) a.is);
+        fits = x.fits;
+        goes = a.goes;
+        shorter = omega (arith, x.shorter);
+      }
+
+  -- an entry of the header with a given keyword
+  named_first : (word : List ℕ) (k : ℕ) (stack : List Item) (ss : List Symbol) → run most 0 (named word k stack) ss ≡ done m tail → Found (λ p. (p.keyword ≡ word) × ((count p.parameters ≡ suc k) × IsPart p)) spell_entry part_nesting most 0 stack ss m tail
+  named_first word k stack ss e =
+      let a = fixed_first (keyword word) 0 (fixed opening ∷ parameter ∷ counted k (fixed semicolon ∷ stack)) ss e in
+      let b = fixed_first opening 0 (parameter ∷ counted k (fixed semicolon ∷ stack)) a.rest a.goes in
+      let x = splits (length b.rest + length b.rest) 1 (counted k (fixed semicolon ∷ stack)) b.rest (omega arith) b.goes in
+      let y = counted_first k (fixed semicolon ∷ stack) x.rest b.fits x.goes in
+      let z = with_counted spell_list k (counted k (fixed semicolon ∷ stack)) (fixed semicolon ∷ stack) b.rest x y b.rest (x.spelled ∙ ap (spell x.tree) y.spelled) (omega arith) in
+      entry_ended (λ ts. (count ts ≡ suc k) × AreParameters ts) word stack b.rest ss z (a.is ∙ ap (λ (more : List Symbol). keyword word ∷ more) b.is)
+
+  text_first : (n : ℕ) (stack : List Item) (ss : List Symbol) → run most n (schema ∷ stack) ss ≡ done m tail → Found IsText spell nesting most n stack ss m tail
+  text_first n stack [] e = absurd cc
+  text_first n stack (value Text bytes ∷ ss) e =
+      let g = stepped n (length (value Text bytes ∷ ss)) (run most n stack ss) e in
+      record { tree = one Text bytes; rest = ss; ok = tt; spelled = refl; fits = omega arith; goes = g.1; shorter = omega arith }
+  text_first n stack (s ∷ ss) e = absurd cc
+
+  abbrev Texts : List Item → List Symbol → Type 0
+  Texts stack ss = Found AreTexts spell_more (λ ts. suc (nestings ts)) most 1 stack ss m tail
+
+  with_text : (stack : List Item) (ss : List Symbol) (x : Found IsText spell nesting most 2 (more_schemas ∷ stack) ss m tail) → Texts stack x.rest → Texts stack (comma ∷ ss)
+  with_text stack ss x y = record {
+    tree = first x.tree y.tree;
+    rest = y.rest;
+    ok = (x.ok, y.ok);
+    spelled = ap (λ (more : List Symbol). comma ∷ more) (x.spelled ∙ ap (spell x.tree) y.spelled);
+    fits = omega (arith, x.fits, y.fits);
+    goes = y.goes;
+    shorter = omega (arith, x.shorter, y.shorter);
+  }
+
+  texts_first : (fuel : ℕ) (stack : List Item) (ss : List Symbol) → 2 ≤ most → length ss ≤ fuel → run most 2 (more_schemas ∷ stack) ss ≡ done m tail → Texts stack ss
+  texts_first fuel stack [] o h e = absurd cc
+  texts_first zero stack (s ∷ ss) o h e = absurd (omega arith)
+  texts_first (suc fuel) stack (closing ∷ ss) o h e =
+      let g = stepped 1 (length (closing ∷ ss)) (run most 1 stack ss) e in
+      record { tree = none; rest = ss; ok = tt; spelled = refl; fits = o; goes = g.1; shorter = omega arith }
+  texts_first (suc fuel) stack (comma ∷ ss) o h e =
+      let g = stepped 2 (length (comma ∷ ss)) (run most 2 (schema ∷ more_schemas ∷ stack) ss) e in
+      let x = text_first 2 (more_schemas ∷ stack) ss g.1 in
+      with_text stack ss x (texts_first fuel stack x.rest o (omega (arith, x.shorter)) x.goes)
+  texts_first (suc fuel) stack (s ∷ ss) o h e = absurd cc
+
+  -- the one list of texts
+  schemas_first : (stack : List Item) (ss : List Symbol) → run most 1 (fixed opening ∷ schema ∷ more_schemas ∷ fixed closing ∷ stack) ss ≡ done m tail → Found IsTextList spell_list (λ ts. suc (nestings ts)) most 0 stack ss m tail
+  schemas_first stack ss e =
+      let a = fixed_first opening 1 (schema ∷ more_schemas ∷ fixed closing ∷ stack) ss e in
+      let longer : length ss ≡ suc (length a.rest) = ap length a.is in
+      let x = text_first 2 (more_schemas ∷ fixed closing ∷ stack) a.rest a.goes in
+      let y = texts_first (length x.rest) (fixed closing ∷ stack) x.rest a.fits (omega arith) x.goes in
+      let b = fixed_first closing 1 stack y.rest y.goes in
+      let end : length y.rest ≡ suc (length b.rest) = ap length b.is in
+      record {
+        tree = first (list (first x.tree y.tree)) none;
+        rest = b.rest;
+        ok = (x.ok, y.ok);
+        spelled = a.is ∙ ap (λ (more : List Symbol). opening ∷ more) (x.spelled ∙ ap (spell x.tree) (y.spelled ∙ ap (spell_more y.tree) b.is));
+        fits = omega (arith, x.fits, y.fits);
+        goes = b.goes;
+        shorter = omega (arith, x.shorter, y.shorter);
+      }
+
+  schema_first : (ss : List Symbol) → run most 0 schema_items ss ≡ done m tail → Found IsSchema spell_entry part_nesting most 0 (entries ∷ data_items) ss m tail
+  unfolding schema_items
+  schema_first ss e =
+      let a = fixed_first (keyword (codes "FILE_SCHEMA")) 0 (fixed opening ∷ fixed opening ∷ schema ∷ more_schemas ∷ fixed closing ∷ fixed semicolon ∷ entries ∷ data_items) ss e in
+      let b = fixed_first opening 0 (fixed opening ∷ schema ∷ more_schemas ∷ fixed closing ∷ fixed semicolon ∷ entries ∷ data_items) a.rest a.goes in
+      let x = schemas_first (fixed semicolon ∷ entries ∷ data_items) b.rest b.goes in
+      entry_ended IsTextList (codes "FILE_SCHEMA") (entries ∷ data_items) b.rest ss x (a.is ∙ ap (λ (more : List Symbol). keyword (codes "FILE_SCHEMA") ∷ more) b.is)
