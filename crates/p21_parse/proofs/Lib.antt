@@ -13,3 +13,4 @@ pub mod NumberLemmas
 pub mod PlainLemmas
 pub mod Complete
 pub mod Sound
+pub mod Trace

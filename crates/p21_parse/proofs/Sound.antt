@@ -13,10 +13,10 @@ use Rattle.p21_parse.specs.Grammar.{IsParameter, AreParameters, IsPart, HasParts
 use Rattle.p21_parse.specs.Nesting.{nesting, nestings, greatest, part_nesting, instance_nesting, exchange_nesting}
 use Rattle.p21_parse.specs.Machine.{Item, fixed, parameter, parameter_list, more_parameters, schema, more_schemas, part, more_parts, behind_name, body, instances, entries, entry_or_end, Outcome, done, stuck, deep, same, on, goes_on, open_in, run, entry_or, counted, named, iso, header, data_word, endsec, end_iso, end_items, data_items, schema_items, file_items}
 
-not_above : (most n : ℕ) → nat_lt most n ≡ false → n ≤ most
+pub not_above : (most n : ℕ) → nat_lt most n ≡ false → n ≤ most
 not_above most n h = grind (arith, nat_tests)
 
-same-is : (x s : Symbol) → same x s ≡ true → x ≡ s
+pub same-is : (x s : Symbol) → same x s ≡ true → x ≡ s
 same-is (keyword v) (keyword w) e = ap keyword ((bytes_eq-Decides v w).0 e)
 same-is (dashed v) (dashed w) e = ap dashed ((bytes_eq-Decides v w).0 e)
 same-is opening opening e = refl
