@@ -14,3 +14,5 @@ pub mod PlainLemmas
 pub mod Complete
 pub mod Sound
 pub mod Trace
+pub mod Finish
+pub mod Leaves

@@ -107,7 +107,7 @@ module _ (stack : List Item) (q : AllByRecursion Quiet stack) where
   calm_step entry_or_end opening c = (refl, tt, ((refl, tt), (fixed_semicolon, ((refl, tt), q))))
   calm_step i s c = tt
 
-same_open : (i : Item) (n : ℕ) (s : Symbol) → open_in i n s ≡ open_after (is_body i) n s
+pub same_open : (i : Item) (n : ℕ) (s : Symbol) → open_in i n s ≡ open_after (is_body i) n s
 same_open body n opening = refl
 same_open i n opening = refl
 same_open i n closing = refl
@@ -143,7 +143,7 @@ not_below : (m n : ℕ) → n ≤ m → nat_lt m n ≡ false
 not_below m n h = grind (arith, nat_tests)
 
 -- one step on
-stepped : (m n left : ℕ) (items : List Item) (o : Option (List Item)) (rest : List Item → Outcome) → o ≡ Some items → n ≤ m → goes_on m o n left rest ≡ rest items
+pub stepped : (m n left : ℕ) (items : List Item) (o : Option (List Item)) (rest : List Item → Outcome) → o ≡ Some items → n ≤ m → goes_on m o n left rest ≡ rest items
 stepped m n left items o rest e h = ap (λ (o : Option (List Item)). goes_on m o n left rest) e ∙ step m n left (rest items) h
 
 module _ (behind : Bool) (n : ℕ) (i : Item) (stack : List Item) (s : Symbol) (ss : List Symbol) (c : Calm behind (i ∷ stack)) (h : n ≤ 32) where
@@ -196,7 +196,7 @@ module _ (behind : Bool) (n : ℕ) (i : Item) (stack : List Item) (s : Symbol) (
       here (subst (λ (o : Option (List Item)). Refused o (open_in i n s) (length (s ∷ ss)) (goes_on 32 o (open_in i n s) (length (s ∷ ss)) (λ items. run 32 (open_in i n s) (items ++ stack) ss))) (sym e) refl)
   by_step (Some items) e further = by_depth items e further (nat_lt 32 (open_in i n s)) refl
 
-stays_calm : (behind : Bool) (i : Item) (stack : List Item) (s : Symbol) (items : List Item) → Calm behind (i ∷ stack) → after i s ≡ Some items → Calm (is_equals s) (items ++ stack)
+pub stays_calm : (behind : Bool) (i : Item) (stack : List Item) (s : Symbol) (items : List Item) → Calm behind (i ∷ stack) → after i s ≡ Some items → Calm (is_equals s) (items ++ stack)
 stays_calm behind i stack s items c e = subst (λ (o : Option (List Item)). CalmAfter (is_equals s) stack o) e (calm_step stack c.2 i s c.1)
 
 pub trace : (ss : List Symbol) (behind : Bool) (n : ℕ) (stack : List Item) → Calm behind stack → n ≤ 32 → Trace behind n stack ss
