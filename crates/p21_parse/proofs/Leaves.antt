@@ -107,6 +107,12 @@ deep_on level (i ∷ stack) (s ∷ ss) o left h e is = by_step (after i s) refl 
           over = subst (λ (s : Symbol). open_in i level s ≡ 33) over.0 over.1;
         }
 
+-- A text in which the machine is stuck is none of the language, and neither is what was read of it.
+pub record Stopped (Whole : List Symbol → Type 0) (ss : List Symbol) (left : ℕ) : Type 0 where
+  pub stops : StopsAt Whole Shallow ss left
+  pub open_end : Whole stops.front → ⊥
+  pub not_whole : Whole ss → ⊥
+
 module _ (Whole : List Symbol → Type 0) (start : List Item) (calm : Calm false start)
     (sound : (m n : ℕ) (ss : List Symbol) → run m 0 start ss ≡ done n [] → Whole ss)
     (complete : (ss : List Symbol) → Whole ss → (tall : ℕ) × ((m : ℕ) → tall ≤ m → run m 0 start ss ≡ done 0 [])) where
@@ -148,13 +154,7 @@ module _ (Whole : List Symbol → Type 0) (start : List Item) (calm : Calm false
   never_ends m level items [] u e = absurd (let both : stuck 0 ≡ done 0 [] = sym (ap (λ (items : List Item). run m level items []) u.is) ∙ e in cc)
   never_ends m level items (s ∷ more) u e = stops_here m level items s more (u.refuses s more refl) e
 
-  -- A text in which the machine is stuck is none of the language, and neither is what was read of it.
-  pub record Stopped (ss : List Symbol) (left : ℕ) : Type 0 where
-    pub stops : StopsAt Whole Shallow ss left
-    pub open_end : Whole stops.front → ⊥
-    pub not_whole : Whole ss → ⊥
-
-  pub stopped : (ss : List Symbol) (left : ℕ) → run 32 0 start ss ≡ stuck left → Stopped ss left
+  pub stopped : (ss : List Symbol) (left : ℕ) → run 32 0 start ss ≡ stuck left → Stopped Whole ss left
   stopped ss left e =
       let t = trace ss false 0 start calm (omega arith) in
       let u = stuck_on t.level t.items t.back (run 32 0 start ss) left t.ends e in

@@ -16,3 +16,6 @@ pub mod Sound
 pub mod Trace
 pub mod Finish
 pub mod Leaves
+pub mod Languages
+pub mod Unique
+pub mod Appends
