@@ -26,7 +26,7 @@ longer_all : {X : Type 0} (each : X → List Symbol → List Symbol) → ((x : X
 longer_all each law [] r more = refl
 longer_all each law (x ∷ xs) r more = ap (each x) (longer_all each law xs r more) ∙ law x (spell_all each xs r) more
 
-longer_parts : (c : Bool) (ps : List PartTree) (r more : List Symbol) → spell_parts c ps (r ++ more) ≡ spell_parts c ps r ++ more
+pub longer_parts : (c : Bool) (ps : List PartTree) (r more : List Symbol) → spell_parts c ps (r ++ more) ≡ spell_parts c ps r ++ more
 longer_parts false ps r more = longer_all spell_part longer_part ps r more
 longer_parts true ps r more = ap (λ (ss : List Symbol). opening ∷ ss) (longer_all spell_part longer_part ps (closing ∷ r) more)
 

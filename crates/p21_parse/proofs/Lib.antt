@@ -19,3 +19,4 @@ pub mod Leaves
 pub mod Languages
 pub mod Unique
 pub mod Appends
+pub mod Inside

@@ -222,7 +222,7 @@ module _ (most m : ℕ) (tail : List Symbol) where
   more_parts_first (suc fuel) stack (s ∷ ss) h e = absurd cc
 
   -- whether the body is that of a complex instance, and its parts
-  abbrev Body : (Bool × List PartTree → List Symbol → List Symbol) → List Item → List Symbol → Type 0
+  abbrev pub Body : (Bool × List PartTree → List Symbol → List Symbol) → List Item → List Symbol → Type 0
   Body each stack ss = Found (λ b. HasParts b.0 b.1 × AllByRecursion IsPart b.1) each (λ b. greatest part_nesting b.1) most 0 stack ss m tail
 
   simple_body : (stack : List Item) (ss : List Symbol) → Found IsPart spell_part part_nesting most 0 stack ss m tail → Body (λ b rest. spell_parts b.0 b.1 rest) stack ss
@@ -259,7 +259,7 @@ module _ (most m : ℕ) (tail : List Symbol) where
   body_first stack (s ∷ ss) e = absurd cc
 
   -- what stands behind an instance's name
-  behind_first : (stack : List Item) (ss : List Symbol) → run most 0 (behind_name ∷ fixed semicolon ∷ stack) ss ≡ done m tail → Body (λ b rest. equals ∷ spell_parts b.0 b.1 (semicolon ∷ rest)) stack ss
+  pub behind_first : (stack : List Item) (ss : List Symbol) → run most 0 (behind_name ∷ fixed semicolon ∷ stack) ss ≡ done m tail → Body (λ b rest. equals ∷ spell_parts b.0 b.1 (semicolon ∷ rest)) stack ss
   behind_first stack [] e = absurd cc
   behind_first stack (equals ∷ ss) e =
       let g = stepped 0 (length (equals ∷ ss)) (run most 0 (body ∷ fixed semicolon ∷ stack) ss) e in
