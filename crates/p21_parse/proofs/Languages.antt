@@ -3,7 +3,7 @@ use Rattle.std.proofs.Common.{◌≡◌, ℕ, zero, suc, ◌+◌, ◌≤◌, ◌
 use Rattle.std.specs.List.{AllByRecursion}
 use Rattle.p21_lex.specs.declared.token.TokenKind.TheVariants as kinds
 use Rattle.p21_parse.specs.Tree.{InstanceTree}
-use Rattle.p21_parse.specs.Symbol.{Symbol, keyword, dashed, opening, comma, semicolon}
+use Rattle.p21_parse.specs.Symbol.{Symbol, name, keyword, dashed, opening, comma, semicolon}
 use Rattle.p21_parse.specs.Spell.{spell_all, spell_instance, spell_file}
 use Rattle.p21_parse.specs.Grammar.{IsFile, AreInstances, IsInstance}
 use Rattle.p21_parse.specs.Nesting.{exchange_nesting, greatest, instance_nesting}
@@ -14,7 +14,8 @@ use Rattle.p21_parse.proofs.Sound.{file_read, instances_read}
 use Rattle.p21_parse.proofs.Trace.{Closable, Quiet, Calm, fixed_opening, fixed_closing, fixed_semicolon}
 use Rattle.p21_parse.proofs.Finish.{word_each, real_append, endsec_real}
 use Rattle.p21_parse.proofs.Appends.{longer_instances}
-use Rattle.p21_parse.proofs.Leaves.{Shallow, Stopped, stopped, stopped_late, deepened}
+use Rattle.p21_parse.proofs.Leaves.{Shallow, Stopped, left_of, stopped, stopped_late, deepened}
+use Rattle.p21_parse.proofs.Named.{read_at}
 
 -- a word without a hyphen
 word_quiet : (word : List ℕ) → IsSymbol (keyword word) → Quiet (fixed (keyword word))
@@ -192,3 +193,18 @@ list_deepened ss left e =
       within = d.within;
       over = d.over;
     }
+
+-- A symbol before the place where the machine ends begins a file with what stands before it.
+pub file_read_at : (ss front back : List Symbol) (s : Symbol) → AllByRecursion IsSymbol ss → ss ≡ front ++ s ∷ back → left_of (run 32 0 file_items ss) ≤ length back → Begins IsFile (front ++ s ∷ []) × Shallow front
+file_read_at ss front back s real e le = read_at IsFile file_items file_calm file_sound file_complete ss front back s real e le
+
+name_open : (front : List Symbol) (number : ℕ) → AreEnded (front ++ name number ∷ []) → ⊥
+name_open front number w =
+    let last = (but_last front (spell_all spell_instance w.0 []) (name number) endsec (w.2 ∙ longer_instances w.0 [] (endsec ∷ []))).1 in
+    absurd cc
+
+-- So a name begins instances.
+pub list_read_at : (ss front back : List Symbol) (number : ℕ) → AllByRecursion IsSymbol ss → ss ≡ front ++ name number ∷ back → left_of (run 32 0 (instances ∷ []) ss) ≤ length back → Begins AreInstances (front ++ name number ∷ []) × Shallow front
+list_read_at ss front back number real e le =
+    let r = read_at AreEnded (instances ∷ []) list_calm list_sound list_complete ss front back (name number) real e le in
+    (list_lives (front ++ name number ∷ []) r.0 (name_open front number), r.1)

@@ -20,3 +20,5 @@ pub mod Languages
 pub mod Unique
 pub mod Appends
 pub mod Inside
+pub mod Named
+pub mod Refusals
