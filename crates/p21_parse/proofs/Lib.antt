@@ -22,3 +22,4 @@ pub mod Appends
 pub mod Inside
 pub mod Named
 pub mod Refusals
+pub mod Owned
