@@ -2,7 +2,7 @@
 use Rattle.std.proofs.Common.{◌≡◌, ℕ, zero, suc, ◌+◌, ◌≤◌, Bool, true, false, List, [], ◌∷◌, ◌++◌, length, refl, sym, ap, subst, ◌∙◌, append_assoc, append-nil, length-append, arith}
 use Rattle.std.specs.List.{AllByRecursion}
 use Rattle.p21_parse.specs.Tree.{PartTree, InstanceTree}
-use Rattle.p21_parse.specs.Symbol.{Symbol, name, semicolon, equals}
+use Rattle.p21_parse.specs.Symbol.{Symbol, name, opening, semicolon, equals}
 use Rattle.p21_parse.specs.Spell.{spell_all, spell_parts, spell_instance}
 use Rattle.p21_parse.specs.Grammar.{IsPart, HasParts, IsInstance, AreInstances}
 use Rattle.p21_parse.specs.Nesting.{greatest, part_nesting}
@@ -12,7 +12,9 @@ use Rattle.p21_parse.proofs.Complete.{step, run-body}
 use Rattle.p21_parse.proofs.Sound.{behind_first}
 use Rattle.p21_parse.proofs.Trace.{Calm, fixed_semicolon}
 use Rattle.p21_parse.proofs.Leaves.{Shallow, Stopped, stopped, deepened}
-use Rattle.p21_parse.proofs.Languages.{list_stopped}
+use Rattle.p21_parse.proofs.Languages.{but_last, Last, last_of}
+use Rattle.p21_parse.specs.Numbers.{numbers_in}
+use Rattle.p21_parse.proofs.Owned.{parts_numbers, no_numbers}
 use Rattle.p21_parse.proofs.Appends.{longer_parts, longer_instances}
 use Rattle.p21_parse.proofs.Unique.{same_parts, same_instance}
 
@@ -43,7 +45,7 @@ pub behind_stopped : (ss : List Symbol) (left : ℕ) → run 32 0 behind_items s
 behind_stopped ss left e = stopped IsBehind behind_items behind_calm behind_sound behind_complete ss left e
 
 -- The symbols before as many are the same.
-same_front : (a b c d : List Symbol) → a ++ b ≡ c ++ d → length b ≡ length d → a ≡ c
+pub same_front : (a b c d : List Symbol) → a ++ b ≡ c ++ d → length b ≡ length d → a ≡ c
 same_front [] b [] d e h = refl
 same_front [] b (s ∷ c) d e h = let long : length b ≡ suc (length (c ++ d)) = ap length e in absurd (omega (arith, length-append c d))
 same_front (s ∷ a) b [] d e h = let long : suc (length (a ++ b)) ≡ length d = ap length e in absurd (omega (arith, length-append a b))
@@ -83,3 +85,49 @@ inside_open ss rest before number left stop e r w =
     = sym stop.parts ∙ e ∙ ap (λ (more : List Symbol). spell_all spell_instance before (name number ∷ more)) s.parts ∙ longer_instances before (name number ∷ s.front) s.back in
     let front = same_front stop.front stop.back (spell_all spell_instance before (name number ∷ s.front)) s.back whole (stop.count ∙ sym s.count) in
     not_ended s.front number s.begins x.open_end before w.0 (sym front ∙ w.2)
+
+pub behind_deepened : (ss : List Symbol) (left : ℕ) → run 32 0 behind_items ss ≡ deep left → DeepAt IsBehind Shallow ss left
+behind_deepened ss left e = deepened IsBehind behind_items behind_calm behind_sound behind_complete ss left e
+
+-- In an instance that has not ended no other one has its name.
+pub inside_numbers : (f : List Symbol) → Begins IsBehind f → (IsBehind f → ⊥) → numbers_in false f ≡ []
+inside_numbers f b no_end = by_more b.0 b.1 b.2
+  where
+    by_more : (more : List Symbol) → AllByRecursion IsSymbol more → IsBehind (f ++ more) → numbers_in false f ≡ []
+    by_more [] h w = absurd (no_end (subst IsBehind (append-nil f) w))
+    by_more (s ∷ more) h w =
+        let l = last_of s more h in
+        let whole : (f ++ l.init) ++ l.last ∷ [] ≡ (equals ∷ spell_parts w.0 w.1 []) ++ semicolon ∷ []
+        = append_assoc f l.init (l.last ∷ []) ∙ ap (λ (more : List Symbol). f ++ more) (sym l.is) ∙ w.4 ∙ ap (λ (ss : List Symbol). equals ∷ ss) (longer_parts w.0 w.1 [] (semicolon ∷ [])) in
+        let front = (but_last (f ++ l.init) (equals ∷ spell_parts w.0 w.1 []) l.last semicolon whole).0 in
+        no_numbers false f l.init (ap (numbers_in false) front ∙ parts_numbers w.0 w.1 [])
+
+parenthesis_open : (f : List Symbol) → IsBehind (f ++ opening ∷ []) → ⊥
+parenthesis_open f w =
+    let last = (but_last f (equals ∷ spell_parts w.0 w.1 []) opening semicolon (w.4 ∙ ap (λ (ss : List Symbol). equals ∷ ss) (longer_parts w.0 w.1 [] (semicolon ∷ [])))).1 in
+    absurd cc
+
+-- What is read of an instance has no numbers: where the machine is stuck, and where it is too deep.
+pub record Inner (rest : List Symbol) (left : ℕ) : Type 0 where
+  pub front : List Symbol
+  pub back : List Symbol
+  pub parts : rest ≡ front ++ back
+  pub count : length back ≡ left
+  pub none : numbers_in false front ≡ []
+
+pub stuck_inside : (rest : List Symbol) (left : ℕ) → run 32 0 behind_items rest ≡ stuck left → Inner rest left
+stuck_inside rest left e =
+    let x = behind_stopped rest left e in
+    let s = x.stops in
+    record { front = s.front; back = s.back; parts = s.parts; count = s.count; none = inside_numbers s.front s.begins x.open_end }
+
+pub deep_inside : (rest : List Symbol) (left : ℕ) → run 32 0 behind_items rest ≡ deep left → Inner rest left
+deep_inside rest left e =
+    let d = behind_deepened rest left e in
+    record {
+      front = d.front;
+      back = opening ∷ d.back;
+      parts = d.parts;
+      count = d.count;
+      none = no_numbers false d.front (opening ∷ []) (inside_numbers (d.front ++ opening ∷ []) d.begins (parenthesis_open d.front));
+    }

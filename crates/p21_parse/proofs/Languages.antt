@@ -114,7 +114,7 @@ list_complete : (ss : List Symbol) → AreEnded ss → (tall : ℕ) × ((m : ℕ
 list_complete ss w = (greatest instance_nesting w.0, λ m h. ap (run m 0 (instances ∷ [])) w.2 ∙ instances_run m w.0 w.1 h)
 
 -- the symbols but the last are the same, and the last ones
-but_last : (a b : List Symbol) (x y : Symbol) → a ++ x ∷ [] ≡ b ++ y ∷ [] → (a ≡ b) × (x ≡ y)
+pub but_last : (a b : List Symbol) (x y : Symbol) → a ++ x ∷ [] ≡ b ++ y ∷ [] → (a ≡ b) × (x ≡ y)
 but_last [] [] x y e = (refl, cc)
 but_last [] (s ∷ []) x y e = absurd cc
 but_last [] (s ∷ t ∷ b) x y e = absurd cc
@@ -128,13 +128,13 @@ but_last (s ∷ a) (t ∷ b) x y e =
     (cc, rest.1)
 
 -- symbols of tokens, of which one is the last
-record Last (more : List Symbol) : Type 0 where
-  init : List Symbol
-  last : Symbol
-  is : more ≡ init ++ last ∷ []
-  real : AllByRecursion IsSymbol init
+pub record Last (more : List Symbol) : Type 0 where
+  pub init : List Symbol
+  pub last : Symbol
+  pub is : more ≡ init ++ last ∷ []
+  pub real : AllByRecursion IsSymbol init
 
-last_of : (s : Symbol) (more : List Symbol) → AllByRecursion IsSymbol (s ∷ more) → Last (s ∷ more)
+pub last_of : (s : Symbol) (more : List Symbol) → AllByRecursion IsSymbol (s ∷ more) → Last (s ∷ more)
 last_of s [] h = record { init = []; last = s; is = refl; real = tt }
 last_of s (t ∷ more) h =
     let l = last_of t more h.1 in

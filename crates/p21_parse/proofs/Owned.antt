@@ -50,3 +50,26 @@ spell_to head items rest =
 
 pub file_to_numbers : (head : List PartTree) (items : List InstanceTree) (rest : List Symbol) → numbers_in false (spell_to head items rest) ≡ map number_of items ++ numbers_in true rest
 file_to_numbers head items rest = entries_numbers head (endsec ∷ semicolon ∷ data_word ∷ semicolon ∷ spell_all spell_instance items rest) ∙ instances_numbers items rest
+
+-- whether what follows symbols stands behind a semicolon
+abbrev pub behind_semicolon : Bool → List Symbol → Bool
+behind_semicolon b [] = b
+behind_semicolon b (s ∷ ss) = behind_semicolon (is_semicolon s) ss
+
+own_append : (b : Bool) (s : Symbol) (xs ys : List ℕ) → own_number b s (xs ++ ys) ≡ own_number b s xs ++ ys
+own_append true (name n) xs ys = refl
+own_append true s xs ys = refl
+own_append false s xs ys = refl
+
+pub numbers_append : (b : Bool) (ss more : List Symbol) → numbers_in b (ss ++ more) ≡ numbers_in b ss ++ numbers_in (behind_semicolon b ss) more
+numbers_append b [] more = refl
+numbers_append b (s ∷ ss) more =
+    ap (own_number b s) (numbers_append (is_semicolon s) ss more) ∙ own_append b s (numbers_in (is_semicolon s) ss) (numbers_in (behind_semicolon (is_semicolon s) ss) more)
+
+nothing_first : (xs ys : List ℕ) → xs ++ ys ≡ [] → xs ≡ []
+nothing_first [] ys e = refl
+nothing_first (x ∷ xs) ys e = absurd cc
+
+-- A front of what has no numbers has none.
+pub no_numbers : (b : Bool) (ss more : List Symbol) → numbers_in b (ss ++ more) ≡ [] → numbers_in b ss ≡ []
+no_numbers b ss more e = nothing_first (numbers_in b ss) (numbers_in (behind_semicolon b ss) more) (sym (numbers_append b ss more) ∙ e)
