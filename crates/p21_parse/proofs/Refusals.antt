@@ -1,21 +1,25 @@
 -- The refusals of a file and of instances, from where the machine ends.
-use Rattle.std.proofs.Common.{◌≡◌, ℕ, zero, suc, ◌+◌, ◌-◌, ◌≤◌, ◌<◌, false, true, List, [], ◌∷◌, ◌++◌, length, take, drop, refl, sym, ap, subst, ◌∙◌, append_assoc, length-append, nat_eq, arith}
+use Rattle.std.proofs.Common.{◌≡◌, ℕ, zero, suc, ◌+◌, ◌-◌, ◌≤◌, ◌<◌, false, true, List, [], ◌∷◌, ◌++◌, length, map, take, drop, refl, sym, ap, subst, ◌∙◌, append_assoc, length-append, nat_eq, arith}
 use Rattle.std.specs.List.{AllByRecursion, IsDistinct}
 use Rattle.std.proofs.Math.Seq.{take-append_seam}
 use Rattle.p21_lex.specs.declared.token.Token.{Token}
 use Rattle.p21_lex.specs.Reading.{IsToken}
 use Rattle.p21_parse.specs.Tree.{InstanceTree}
-use Rattle.p21_parse.specs.Symbol.{Symbol, name, opening, symbol_of, symbols}
+use Rattle.p21_parse.specs.Symbol.{Symbol, name, opening, semicolon, symbol_of, symbols}
 use Rattle.p21_parse.specs.Spell.{spell_all, spell_instance}
 use Rattle.p21_parse.specs.Grammar.{IsFile, AreInstances}
 use Rattle.p21_parse.specs.Begins.{IsSymbol, Begins, StopsAt, DeepAt, ManyAt, TwiceAt}
 use Rattle.p21_parse.specs.Places.{Refusal, syntax, too_deep, too_many, duplicate, place_of}
 use Rattle.p21_parse.specs.Refused.{file_numbers, IsWithin, RefusedAt, list_numbers, IsWithinList, RefusedFrom}
-use Rattle.p21_parse.specs.Machine.{instances, Outcome, done, stuck, deep, run, file_items}
+use Rattle.p21_parse.specs.Machine.{Item, fixed, behind_name, instances, Outcome, done, stuck, deep, run, file_items}
 use Rattle.p21_parse.proofs.Leaves.{Shallow, Stopped, left_of}
 use Rattle.p21_parse.proofs.Languages.{file_stopped, file_late, file_deepened, list_stopped, list_deepened, file_read_at, list_read_at}
-use Rattle.p21_parse.proofs.Inside.{behind_items, inside_open}
-use Rattle.p21_parse.proofs.Named.{symbols_real}
+use Rattle.p21_parse.proofs.Inside.{behind_items, inside_open, same_front, Inner, stuck_inside, deep_inside}
+use Rattle.p21_parse.proofs.Named.{symbols_real, left_within}
+use Rattle.p21_parse.proofs.Owned.{instances_numbers}
+use Rattle.p21_parse.proofs.Appends.{longer_instances}
+use Rattle.std.proofs.lemmas.List.{length-map}
+use Rattle.p21_parse.specs.PlainFile.{number_of}
 
 -- The instances of a front are few, and no number comes twice.
 pub record IsNumbered (front : List Symbol) : Type 0 where
@@ -82,23 +86,48 @@ module _ (bytes : List ℕ) (tokens : List Token) where
     list_within : (front : List Symbol) → Shallow front → length (list_numbers front) ≤ most → IsWithinList most front
     list_within front s few = record { shallow = s; few = few }
 
-    pub list_syntax : (rest : List Symbol) (before : List InstanceTree) (number left : ℕ) → run 32 0 (instances ∷ []) here ≡ stuck left → here ≡ spell_all spell_instance before (name number ∷ rest) → run 32 0 behind_items rest ≡ stuck left
-        → length (list_numbers (take (length here - left) here)) ≤ most → RefusedFrom bytes tokens at most (syntax (place_of bytes tokens left))
-    list_syntax rest before number left e parts r n =
-        let s = list_stopped here left e in (
-          left,
-          narrowed AreInstances Shallow (IsWithinList most) here left s (list_within s.front s.within (subst (λ (front : List Symbol). length (list_numbers front) ≤ most) (front_is here s.front s.back left s.parts s.count) n)),
-          inside_open here rest before number left s parts r,
-          refl,
-        )
+    -- what was read before an instance's name, and in it
+    module _ (before : List InstanceTree) (number : ℕ) (rest : List Symbol) (parts : here ≡ spell_all spell_instance before (name number ∷ rest))
+        (goes : run 32 0 (instances ∷ []) here ≡ run 32 0 (instances ∷ []) (name number ∷ rest)) where
+      inner_front : (left : ℕ) (x : Inner rest left) (front back : List Symbol) → here ≡ front ++ back → length back ≡ left → front ≡ spell_all spell_instance before (name number ∷ x.front)
+      inner_front left x front back e h =
+          same_front front back (spell_all spell_instance before (name number ∷ x.front)) x.back
+          (sym e ∙ parts ∙ ap (λ (more : List Symbol). spell_all spell_instance before (name number ∷ more)) x.parts ∙ longer_instances before (name number ∷ x.front) x.back) (h ∙ sym x.count)
 
-    pub list_too_deep : (left : ℕ) → run 32 0 (instances ∷ []) here ≡ deep left → length (list_numbers (take (length here - left) here)) ≤ most → RefusedFrom bytes tokens at most (too_deep (place_of bytes tokens left))
-    list_too_deep left e n =
-        let d = list_deepened here left e in
-        (left, deep_narrowed AreInstances Shallow (IsWithinList most) here left d (list_within d.front d.within (subst (λ (front : List Symbol). length (list_numbers front) ≤ most) (front_is here d.front (opening ∷ d.back) left d.parts d.count) n)), refl)
+      inner_numbers : (left : ℕ) (x : Inner rest left) (front back : List Symbol) → here ≡ front ++ back → length back ≡ left → list_numbers front ≡ map number_of before ++ number ∷ []
+      inner_numbers left x front back e h =
+          ap list_numbers (inner_front left x front back e h) ∙ instances_numbers before (name number ∷ x.front) ∙ ap (λ (ns : List ℕ). map number_of before ++ number ∷ ns) x.none
 
-    pub list_too_many : AllByRecursion (IsToken bytes) (drop at tokens) → (front back : List Symbol) (number : ℕ) → here ≡ front ++ name number ∷ back → left_of (run 32 0 (instances ∷ []) here) ≤ length back
-        → length (list_numbers front) ≤ most → most < length (list_numbers (front ++ name number ∷ [])) → RefusedFrom bytes tokens at most (too_many (place_of bytes tokens (length (name number ∷ back))))
-    list_too_many real front back number parts before few over =
-        let r = list_read_at here front back number (symbols_real bytes (drop at tokens) real) parts before in
-        (length (name number ∷ back), record { front = front; number = number; back = back; parts = parts; count = refl; begins = r.0; within = list_within front r.1 few; over = over }, refl)
+      inner_few : (left : ℕ) (x : Inner rest left) (front back : List Symbol) → here ≡ front ++ back → length back ≡ left → length before < most → length (list_numbers front) ≤ most
+      inner_few left x front back e h lt =
+          let numbers = ap length (inner_numbers left x front back e h) in
+          omega (arith, numbers, length-append (map number_of before) (number ∷ []), length-map before number_of)
+
+      -- Syntax inside an instance
+      pub list_syntax : (left : ℕ) → ((stack : List Item) → run 32 0 (behind_name ∷ fixed semicolon ∷ stack) rest ≡ stuck left) → length before < most → RefusedFrom bytes tokens at most (syntax (place_of bytes tokens left))
+      list_syntax left e lt =
+          let s = list_stopped here left (goes ∙ e (instances ∷ [])) in (
+            left,
+            narrowed AreInstances Shallow (IsWithinList most) here left s (list_within s.front s.within (inner_few left (stuck_inside rest left (e [])) s.front s.back s.parts s.count lt)),
+            inside_open here rest before number left s parts (e []),
+            refl,
+          )
+
+      -- TooDeep inside an instance
+      pub list_too_deep : (left : ℕ) → ((stack : List Item) → run 32 0 (behind_name ∷ fixed semicolon ∷ stack) rest ≡ deep left) → length before < most → RefusedFrom bytes tokens at most (too_deep (place_of bytes tokens left))
+      list_too_deep left e lt =
+          let d = list_deepened here left (goes ∙ e (instances ∷ [])) in
+          (left, deep_narrowed AreInstances Shallow (IsWithinList most) here left d (list_within d.front d.within (inner_few left (deep_inside rest left (e [])) d.front (opening ∷ d.back) d.parts d.count lt)), refl)
+
+      -- TooMany at the name
+      pub list_too_many : AllByRecursion (IsToken bytes) (drop at tokens) → length before ≡ most → RefusedFrom bytes tokens at most (too_many (place_of bytes tokens (length (name number ∷ rest))))
+      list_too_many real full =
+          let front : List Symbol = spell_all spell_instance before [] in
+          let split : here ≡ front ++ name number ∷ rest = parts ∙ longer_instances before [] (name number ∷ rest) in
+          let ends : left_of (run 32 0 (instances ∷ []) here) ≤ length rest = subst (λ (o : Outcome). left_of o ≤ length rest) (sym goes) (left_within rest 32 0 (behind_name ∷ fixed semicolon ∷ instances ∷ [])) in
+          let r = list_read_at here front rest number (symbols_real bytes (drop at tokens) real) split ends in
+          let own : length (list_numbers front) ≡ length before = ap length (instances_numbers before []) ∙ omega (arith, length-append (map number_of before) [], length-map before number_of) in
+          let whole : length (list_numbers (front ++ name number ∷ [])) ≡ suc (length before) =
+          ap (λ (ss : List Symbol). length (list_numbers ss)) (sym (longer_instances before [] (name number ∷ []))) ∙ ap length (instances_numbers before (name number ∷ []))
+          ∙ omega (arith, length-append (map number_of before) (number ∷ []), length-map before number_of) in
+          (length (name number ∷ rest), record { front = front; number = number; back = rest; parts = split; count = refl; begins = r.0; within = list_within front r.1 (omega arith); over = omega arith }, refl)
