@@ -14,7 +14,7 @@ use Rattle.p21_parse.proofs.Sound.{file_read, instances_read}
 use Rattle.p21_parse.proofs.Trace.{Closable, Quiet, Calm, fixed_opening, fixed_closing, fixed_semicolon}
 use Rattle.p21_parse.proofs.Finish.{word_each, real_append, endsec_real}
 use Rattle.p21_parse.proofs.Appends.{longer_instances}
-use Rattle.p21_parse.proofs.Leaves.{Shallow, Stopped, left_of, stopped, stopped_late, deepened}
+use Rattle.p21_parse.proofs.Leaves.{Shallow, Stopped, left_of, stopped, stopped_late, deepened, read_shallow}
 use Rattle.p21_parse.proofs.Named.{read_at}
 
 -- a word without a hyphen
@@ -208,3 +208,6 @@ pub list_read_at : (ss front back : List Symbol) (number : ℕ) → AllByRecursi
 list_read_at ss front back number real e le =
     let r = read_at AreEnded (instances ∷ []) list_calm list_sound list_complete ss front back (name number) real e le in
     (list_lives (front ++ name number ∷ []) r.0 (name_open front number), r.1)
+
+pub file_shallow : (ss : List Symbol) (n : ℕ) → run 32 0 file_items ss ≡ done n [] → Shallow ss
+file_shallow ss n e = read_shallow file_items ss n file_calm e

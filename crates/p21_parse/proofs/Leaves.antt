@@ -75,7 +75,7 @@ record DeepOn (level : ℕ) (items : List Item) (back : List Symbol) : Type 0 wh
   fits : after item opening ≡ Some next
   over : open_in item level opening ≡ 33
 
-above : (m n : ℕ) → nat_lt m n ≡ true → m < n
+pub above : (m n : ℕ) → nat_lt m n ≡ true → m < n
 above m n h = grind (arith, nat_tests)
 
 level_over : (i : Item) (level : ℕ) (s : Symbol) → level ≤ 32 → 32 < open_in i level s → (s ≡ opening) × (open_in i level s ≡ 33)
@@ -218,3 +218,10 @@ module _ (Whole : List Symbol → Type 0) (start : List Item) (calm : Calm false
         within = t.shallow;
         over = sym (t.flag opening) ∙ ap (λ (b : Bool). open_after b t.level opening) top.0 ∙ sym (same_open u.item t.level opening) ∙ u.over;
       }
+
+-- What is read to its end is shallow.
+pub read_shallow : (start : List Item) (ss : List Symbol) (n : ℕ) → Calm false start → run 32 0 start ss ≡ done n [] → Shallow ss
+read_shallow start ss n calm e =
+    let t = trace ss false 0 start calm (omega arith) in
+    let u = done_on t.level t.items t.back (run 32 0 start ss) n [] t.ends e in
+    subst Shallow (sym (t.parts ∙ ap (λ (back : List Symbol). t.front ++ back) u.1 ∙ append-nil t.front)) t.shallow

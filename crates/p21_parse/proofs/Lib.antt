@@ -23,3 +23,4 @@ pub mod Inside
 pub mod Named
 pub mod Refusals
 pub mod Owned
+pub mod Single

@@ -18,7 +18,7 @@ symbols_real bytes [] h = tt
 symbols_real bytes (t ∷ ts) h = ((t.kind, text_of bytes t, h.0.spelled, refl), symbols_real bytes ts h.1)
 
 -- a front with no more symbols behind it is the longer one
-longer_front : (a b c d : List Symbol) → a ++ b ≡ c ++ d → length b ≤ length d → (mid : List Symbol) × (a ≡ c ++ mid) × (d ≡ mid ++ b)
+pub longer_front : (a b c d : List Symbol) → a ++ b ≡ c ++ d → length b ≤ length d → (mid : List Symbol) × (a ≡ c ++ mid) × (d ≡ mid ++ b)
 longer_front a b [] d e h = (a, refl, sym e)
 longer_front [] b (s ∷ c) d e h = let long : length b ≡ suc (length (c ++ d)) = ap length e in absurd (omega (arith, length-append c d))
 longer_front (s ∷ a) b (t ∷ c) d e h =
@@ -28,15 +28,15 @@ longer_front (s ∷ a) b (t ∷ c) d e h =
     let front : a ≡ c ++ m.0 = m.1 in
     (m.0, cc, m.2)
 
-shallow_front : (behind : Bool) (n : ℕ) (a b : List Symbol) → IsShallow behind n (a ++ b) → IsShallow behind n a
+pub shallow_front : (behind : Bool) (n : ℕ) (a b : List Symbol) → IsShallow behind n (a ++ b) → IsShallow behind n a
 shallow_front behind n [] b h = tt
 shallow_front behind n (s ∷ a) b h = (h.0, shallow_front (is_equals s) (open_after behind n s) a b h.1)
 
-real_back : (a b : List Symbol) → AllByRecursion IsSymbol (a ++ b) → AllByRecursion IsSymbol b
+pub real_back : (a b : List Symbol) → AllByRecursion IsSymbol (a ++ b) → AllByRecursion IsSymbol b
 real_back [] b h = h
 real_back (s ∷ a) b h = real_back a b h.1
 
-real_front : (a b : List Symbol) → AllByRecursion IsSymbol (a ++ b) → AllByRecursion IsSymbol a
+pub real_front : (a b : List Symbol) → AllByRecursion IsSymbol (a ++ b) → AllByRecursion IsSymbol a
 real_front [] b h = tt
 real_front (s ∷ a) b h = (h.0, real_front a b h.1)
 

@@ -4,7 +4,7 @@ use Rattle.p21_parse.specs.Tree.{Tree, one, reference, list, typed, Trees, none,
 use Rattle.p21_parse.specs.Symbol.{Symbol, value, name, keyword, dashed, opening, closing, comma, semicolon, equals}
 use Rattle.p21_parse.specs.Spell.{spell, spell_list, spell_more, spell_all, spell_part, spell_parts, spell_entry, spell_instance}
 use Rattle.p21_parse.specs.Numbers.{own_number, is_semicolon, numbers_in}
-use Rattle.p21_parse.specs.PlainFile.{number_of}
+use Rattle.p21_parse.specs.Allowed.{own_number_of}
 use Rattle.p21_parse.specs.Machine.{iso, header, endsec, data_word}
 
 mutual
@@ -38,7 +38,7 @@ entries_numbers : (ps : List PartTree) (rest : List Symbol) → numbers_in true 
 entries_numbers [] rest = refl
 entries_numbers (p ∷ ps) rest = list_numbers p.parameters (semicolon ∷ spell_all spell_entry ps rest) ∙ entries_numbers ps rest
 
-pub instances_numbers : (items : List InstanceTree) (rest : List Symbol) → numbers_in true (spell_all spell_instance items rest) ≡ map number_of items ++ numbers_in true rest
+pub instances_numbers : (items : List InstanceTree) (rest : List Symbol) → numbers_in true (spell_all spell_instance items rest) ≡ map own_number_of items ++ numbers_in true rest
 instances_numbers [] rest = refl
 instances_numbers (i ∷ items) rest =
     ap (λ (ns : List ℕ). i.number ∷ ns) (parts_numbers i.complex i.parts (semicolon ∷ spell_all spell_instance items rest) ∙ instances_numbers items rest)
@@ -48,7 +48,7 @@ abbrev pub spell_to : List PartTree → List InstanceTree → List Symbol → Li
 spell_to head items rest =
     iso ∷ semicolon ∷ header ∷ semicolon ∷ spell_all spell_entry head (endsec ∷ semicolon ∷ data_word ∷ semicolon ∷ spell_all spell_instance items rest)
 
-pub file_to_numbers : (head : List PartTree) (items : List InstanceTree) (rest : List Symbol) → numbers_in false (spell_to head items rest) ≡ map number_of items ++ numbers_in true rest
+pub file_to_numbers : (head : List PartTree) (items : List InstanceTree) (rest : List Symbol) → numbers_in false (spell_to head items rest) ≡ map own_number_of items ++ numbers_in true rest
 file_to_numbers head items rest = entries_numbers head (endsec ∷ semicolon ∷ data_word ∷ semicolon ∷ spell_all spell_instance items rest) ∙ instances_numbers items rest
 
 -- whether what follows symbols stands behind a semicolon

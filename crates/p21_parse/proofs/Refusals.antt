@@ -19,7 +19,7 @@ use Rattle.p21_parse.proofs.Named.{symbols_real, left_within}
 use Rattle.p21_parse.proofs.Owned.{instances_numbers}
 use Rattle.p21_parse.proofs.Appends.{longer_instances}
 use Rattle.std.proofs.lemmas.List.{length-map}
-use Rattle.p21_parse.specs.PlainFile.{number_of}
+use Rattle.p21_parse.specs.Allowed.{own_number_of}
 
 -- The instances of a front are few, and no number comes twice.
 pub record IsNumbered (front : List Symbol) : Type 0 where
@@ -94,14 +94,14 @@ module _ (bytes : List ℕ) (tokens : List Token) where
           same_front front back (spell_all spell_instance before (name number ∷ x.front)) x.back
           (sym e ∙ parts ∙ ap (λ (more : List Symbol). spell_all spell_instance before (name number ∷ more)) x.parts ∙ longer_instances before (name number ∷ x.front) x.back) (h ∙ sym x.count)
 
-      inner_numbers : (left : ℕ) (x : Inner rest left) (front back : List Symbol) → here ≡ front ++ back → length back ≡ left → list_numbers front ≡ map number_of before ++ number ∷ []
+      inner_numbers : (left : ℕ) (x : Inner rest left) (front back : List Symbol) → here ≡ front ++ back → length back ≡ left → list_numbers front ≡ map own_number_of before ++ number ∷ []
       inner_numbers left x front back e h =
-          ap list_numbers (inner_front left x front back e h) ∙ instances_numbers before (name number ∷ x.front) ∙ ap (λ (ns : List ℕ). map number_of before ++ number ∷ ns) x.none
+          ap list_numbers (inner_front left x front back e h) ∙ instances_numbers before (name number ∷ x.front) ∙ ap (λ (ns : List ℕ). map own_number_of before ++ number ∷ ns) x.none
 
       inner_few : (left : ℕ) (x : Inner rest left) (front back : List Symbol) → here ≡ front ++ back → length back ≡ left → length before < most → length (list_numbers front) ≤ most
       inner_few left x front back e h lt =
           let numbers = ap length (inner_numbers left x front back e h) in
-          omega (arith, numbers, length-append (map number_of before) (number ∷ []), length-map before number_of)
+          omega (arith, numbers, length-append (map own_number_of before) (number ∷ []), length-map before own_number_of)
 
       -- Syntax inside an instance
       pub list_syntax : (left : ℕ) → ((stack : List Item) → run 32 0 (behind_name ∷ fixed semicolon ∷ stack) rest ≡ stuck left) → length before < most → RefusedFrom bytes tokens at most (syntax (place_of bytes tokens left))
@@ -126,8 +126,8 @@ module _ (bytes : List ℕ) (tokens : List Token) where
           let split : here ≡ front ++ name number ∷ rest = parts ∙ longer_instances before [] (name number ∷ rest) in
           let ends : left_of (run 32 0 (instances ∷ []) here) ≤ length rest = subst (λ (o : Outcome). left_of o ≤ length rest) (sym goes) (left_within rest 32 0 (behind_name ∷ fixed semicolon ∷ instances ∷ [])) in
           let r = list_read_at here front rest number (symbols_real bytes (drop at tokens) real) split ends in
-          let own : length (list_numbers front) ≡ length before = ap length (instances_numbers before []) ∙ omega (arith, length-append (map number_of before) [], length-map before number_of) in
+          let own : length (list_numbers front) ≡ length before = ap length (instances_numbers before []) ∙ omega (arith, length-append (map own_number_of before) [], length-map before own_number_of) in
           let whole : length (list_numbers (front ++ name number ∷ [])) ≡ suc (length before) =
           ap (λ (ss : List Symbol). length (list_numbers ss)) (sym (longer_instances before [] (name number ∷ []))) ∙ ap length (instances_numbers before (name number ∷ []))
-          ∙ omega (arith, length-append (map number_of before) (number ∷ []), length-map before number_of) in
+          ∙ omega (arith, length-append (map own_number_of before) (number ∷ []), length-map before own_number_of) in
           (length (name number ∷ rest), record { front = front; number = number; back = rest; parts = split; count = refl; begins = r.0; within = list_within front r.1 (omega arith); over = omega arith }, refl)
