@@ -4,6 +4,7 @@
 mod distinct;
 mod error;
 mod exchange;
+mod laws;
 mod layout;
 mod param;
 mod parse;
@@ -11,6 +12,7 @@ mod reading;
 
 pub use error::ReadErr;
 pub use exchange::{Exchange, Instance, InstanceList, Part, PartList};
+pub use laws::grammar_laws;
 pub use param::{Param, ParamList};
 pub use reading::{one_exchange, read};
 
