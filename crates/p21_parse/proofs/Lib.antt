@@ -23,4 +23,5 @@ pub mod Inside
 pub mod Named
 pub mod Refusals
 pub mod Owned
+pub mod Fronts
 pub mod Single

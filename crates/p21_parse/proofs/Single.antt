@@ -15,8 +15,7 @@ use Rattle.p21_parse.specs.Begins.{IsSymbol, Begins, StopsAt, DeepAt, ManyAt, Tw
 use Rattle.p21_parse.specs.Places.{Refusal, syntax, too_deep, too_many, duplicate, place_of}
 use Rattle.p21_parse.specs.Refused.{file_numbers, IsWithin, RefusedAt}
 use Rattle.p21_parse.specs.Allowed.{own_number_of, IsAllowed}
-use Rattle.p21_parse.proofs.Leaves.{Shallow, above}
-use Rattle.p21_parse.proofs.Sound.{not_above}
+use Rattle.p21_parse.proofs.Fronts.{shallow_open, Longest, broken, one_longest}
 use Rattle.p21_parse.proofs.Complete.{file_runs}
 use Rattle.p21_parse.proofs.Languages.{file_shallow}
 use Rattle.p21_parse.proofs.Named.{symbols_real, longer_front, shallow_front, real_front, real_back, begins_front}
@@ -43,49 +42,6 @@ within_front a b w =
       distinct = distinct_front (file_numbers a) (numbers_in (behind_semicolon false a) b) (subst (IsDistinct nat_eq) numbers w.distinct);
     }
 
-shallow_open : (behind : Bool) (n : ℕ) (ss : List Symbol) → n ≤ 32 → IsShallow behind n ss → open_behind behind n ss ≤ 32
-shallow_open behind n [] h s = h
-shallow_open behind n (u ∷ ss) h s = shallow_open (is_equals u) (open_after behind n u) ss s.0 s.1
-
--- The front begins a file within the limits.
-abbrev Good : List Symbol → Type 0
-Good front = Begins IsFile front × IsWithin front
-
--- It is the longest.
-record Longest (ss front back : List Symbol) : Type 0 where
-  parts : ss ≡ front ++ back
-  good : Good front
-  ends : (s : Symbol) (more : List Symbol) → back ≡ s ∷ more → Good (front ++ s ∷ []) → ⊥
-
--- Of two longest fronts neither is longer.
-not_longer : (ss f b g c : List Symbol) → AllByRecursion IsSymbol ss → Longest ss f b → Longest ss g c → length b ≤ length c → (f ≡ g) × (b ≡ c)
-not_longer ss f b g c real x y le =
-    let m = longer_front f b g c (sym x.parts ∙ y.parts) le in
-    by_middle m.0 m.1 m.2
-  where
-    by_middle : (mid : List Symbol) → f ≡ g ++ mid → c ≡ mid ++ b → (f ≡ g) × (b ≡ c)
-    by_middle [] e h = (e ∙ append-nil g, sym h)
-    by_middle (s ∷ mid) e h =
-        let one : f ≡ (g ++ s ∷ []) ++ mid = e ∙ sym (append_assoc g (s ∷ []) mid) in
-        let back_real : AllByRecursion IsSymbol c = real_back g c (subst (AllByRecursion IsSymbol) y.parts real) in
-        let mid_real : AllByRecursion IsSymbol (s ∷ mid) = real_front (s ∷ mid) b (subst (AllByRecursion IsSymbol) h back_real) in
-        absurd (y.ends s (mid ++ b) h
-        (begins_front IsFile (g ++ s ∷ []) mid mid_real.1 (subst (Begins IsFile) one x.good.0), within_front (g ++ s ∷ []) mid (subst IsWithin one x.good.1)))
-
-one_longest : (ss f b g c : List Symbol) → AllByRecursion IsSymbol ss → Longest ss f b → Longest ss g c → (f ≡ g) × (b ≡ c)
-one_longest ss f b g c real x y = by_length (split (length b) (length c))
-  where
-    split : (n m : ℕ) → (n ≤ m) ⊎ (m ≤ n)
-    split n m = by_test (nat_lt n m) refl
-      where
-        by_test : (b : Bool) → nat_lt n m ≡ b → (n ≤ m) ⊎ (m ≤ n)
-        by_test true e = inl (omega (arith, above n m e))
-        by_test false e = inr (not_above n m e)
-
-    by_length : (length b ≤ length c) ⊎ (length c ≤ length b) → (f ≡ g) × (b ≡ c)
-    by_length (inl le) = not_longer ss f b g c real x y le
-    by_length (inr le) = let h = not_longer ss g c f b real y x le in (sym h.0, sym h.1)
-
 module _ (bytes : List ℕ) (tokens : List Token) where
   -- what a refusal says of the longest front and what follows it
   abbrev Says : Refusal → List Symbol → List Symbol → Type 0
@@ -98,18 +54,10 @@ module _ (bytes : List ℕ) (tokens : List Token) where
   record Told (r : Refusal) : Type 0 where
     front : List Symbol
     back : List Symbol
-    longest : Longest (symbols bytes tokens) front back
+    longest : Longest IsFile IsWithin (symbols bytes tokens) front back
     says : Says r front back
 
-  -- a symbol with which a limit is broken
   module _ (real : AllByRecursion IsSymbol (symbols bytes tokens)) where
-    broken : (front back : List Symbol) (s : Symbol) → symbols bytes tokens ≡ front ++ s ∷ back → Begins IsFile (front ++ s ∷ []) → IsWithin front → (IsWithin (front ++ s ∷ []) → ⊥) → Longest (symbols bytes tokens) front (s ∷ back)
-    broken front back s e b w no_more = record {
-      parts = e;
-      good = (begins_front IsFile front (s ∷ []) ((real_back front (s ∷ back) (subst (AllByRecursion IsSymbol) e real)).0, tt) b, w);
-      ends = λ u more here good. let same : s ≡ u = cc in no_more (subst (λ (u : Symbol). IsWithin (front ++ u ∷ [])) (sym same) good.1);
-    }
-
     told : (r : Refusal) → RefusedAt bytes tokens r → Told r
     told (syntax place) x =
         let s = x.1 in
@@ -124,7 +72,7 @@ module _ (bytes : List ℕ) (tokens : List Token) where
         record {
           front = d.front;
           back = opening ∷ d.back;
-          longest = broken d.front d.back opening d.parts d.begins d.within (λ w. let le = shallow_open false 0 (d.front ++ opening ∷ []) (omega arith) w.shallow in absurd (omega (arith, d.over)));
+          longest = broken IsFile IsWithin (symbols bytes tokens) d.front d.back opening real d.parts d.begins d.within (λ w. let le = shallow_open false 0 (d.front ++ opening ∷ []) (omega arith) w.shallow in absurd (omega (arith, d.over)));
           says = (d.back, refl, x.2 ∙ ap (place_of bytes tokens) (sym d.count), d.begins);
         }
     told (too_many place) x =
@@ -132,13 +80,13 @@ module _ (bytes : List ℕ) (tokens : List Token) where
         record {
           front = m.front;
           back = name m.number ∷ m.back;
-          longest = broken m.front m.back (name m.number) m.parts m.begins m.within (λ w. absurd (omega (arith, m.over, w.few)));
+          longest = broken IsFile IsWithin (symbols bytes tokens) m.front m.back (name m.number) real m.parts m.begins m.within (λ w. absurd (omega (arith, m.over, w.few)));
           says = (m.number, m.back, refl, x.2 ∙ ap (place_of bytes tokens) (sym m.count), m.begins, m.over);
         }
     told (duplicate number) t = record {
       front = t.front;
       back = name number ∷ t.back;
-      longest = broken t.front t.back (name number) t.parts t.begins t.within (λ w. t.twice w.distinct);
+      longest = broken IsFile IsWithin (symbols bytes tokens) t.front t.back (name number) real t.parts t.begins t.within (λ w. t.twice w.distinct);
       says = (t.back, refl, t.begins, t.few);
     }
 
@@ -172,11 +120,11 @@ module _ (bytes : List ℕ) (tokens : List Token) where
     one_refusal r q x y =
         let a = told r x in
         let b = told q y in
-        let same = one_longest (symbols bytes tokens) a.front a.back b.front b.back real a.longest b.longest in
+        let same = one_longest IsFile IsWithin within_front (symbols bytes tokens) a.front a.back b.front b.back real a.longest b.longest in
         agree r q b.front b.back (subst (λ (front : List Symbol). Says r front b.back) same.0 (subst (λ (back : List Symbol). Says r a.front back) same.1 a.says)) b.says
 
     -- An allowed file is its own longest front.
-    allowed_longest : (x : ExchangeTree) → IsAllowed x → symbols bytes tokens ≡ spell_file x → Longest (symbols bytes tokens) (symbols bytes tokens) []
+    allowed_longest : (x : ExchangeTree) → IsAllowed x → symbols bytes tokens ≡ spell_file x → Longest IsFile IsWithin (symbols bytes tokens) (symbols bytes tokens) []
     allowed_longest x a e =
         let end : List Symbol = endsec ∷ semicolon ∷ end_iso ∷ semicolon ∷ [] in
         let numbers : file_numbers (symbols bytes tokens) ≡ map own_number_of x.items = ap file_numbers e ∙ file_to_numbers x.head x.items end ∙ append-nil (map own_number_of x.items) in
@@ -198,7 +146,7 @@ module _ (bytes : List ℕ) (tokens : List Token) where
     not_refused : (x : ExchangeTree) (r : Refusal) → IsAllowed x → symbols bytes tokens ≡ spell_file x → RefusedAt bytes tokens r → ⊥
     not_refused x r a e y =
         let t = told r y in
-        let same = one_longest (symbols bytes tokens) t.front t.back (symbols bytes tokens) [] real t.longest (allowed_longest x a e) in
+        let same = one_longest IsFile IsWithin within_front (symbols bytes tokens) t.front t.back (symbols bytes tokens) [] real t.longest (allowed_longest x a e) in
         by_refusal r t.front y (subst (λ (back : List Symbol). Says r t.front back) same.1 t.says)
       where
         by_refusal : (r : Refusal) (front : List Symbol) → RefusedAt bytes tokens r → Says r front [] → ⊥

@@ -80,6 +80,12 @@ same_instance i j r s e =
     let h = same_parts i.complex j.complex i.parts j.parts r s inner in
     (λ k. record { number = number k; complex = h.0 k; parts = h.1 k }, h.2)
 
+-- Instances up to what is no name are the same.
+pub same_instances : (xs ys : List InstanceTree) (r s : List Symbol) → ((n : ℕ) (more : List Symbol) → r ≡ name n ∷ more → ⊥) → ((n : ℕ) (more : List Symbol) → s ≡ name n ∷ more → ⊥)
+    → spell_all spell_instance xs r ≡ spell_all spell_instance ys s → (xs ≡ ys) × (r ≡ s)
+same_instances xs ys r s nr ns e =
+    same_all spell_instance same_instance xs ys r s (λ i more h. nr i.number (equals ∷ spell_parts i.complex i.parts (semicolon ∷ more)) h) (λ i more h. ns i.number (equals ∷ spell_parts i.complex i.parts (semicolon ∷ more)) h) e
+
 same_entry : (p q : PartTree) (r s : List Symbol) → spell_entry p r ≡ spell_entry q s → (p ≡ q) × (r ≡ s)
 same_entry p q r s e = let h = same_part p q (semicolon ∷ r) (semicolon ∷ s) e in (h.0, let ends = h.1 in cc)
 
