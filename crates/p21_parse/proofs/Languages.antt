@@ -104,7 +104,7 @@ file_deepened ss left e = deepened IsFile file_items file_calm file_sound file_c
 abbrev AreEnded : List Symbol → Type 0
 AreEnded ss = (items : List InstanceTree) × AllByRecursion IsInstance items × (ss ≡ spell_all spell_instance items (endsec ∷ []))
 
-list_calm : Calm false (instances ∷ [])
+pub list_calm : Calm false (instances ∷ [])
 list_calm = (refl, tt, tt)
 
 list_sound : (m n : ℕ) (ss : List Symbol) → run m 0 (instances ∷ []) ss ≡ done n [] → AreEnded ss

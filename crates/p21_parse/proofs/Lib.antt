@@ -25,3 +25,4 @@ pub mod Refusals
 pub mod Owned
 pub mod Fronts
 pub mod Single
+pub mod SingleList
