@@ -14,7 +14,7 @@ use Rattle.p21_parse.specs.Machine.{endsec, instances, done, run}
 use Rattle.p21_parse.specs.Begins.{IsSymbol, Begins, StopsAt, DeepAt, ManyAt}
 use Rattle.p21_parse.specs.Places.{Refusal, syntax, too_deep, too_many, duplicate, place_of}
 use Rattle.p21_parse.specs.Refused.{list_numbers, IsWithinList, RefusedFrom}
-use Rattle.p21_parse.specs.Allowed.{own_number_of}
+use Rattle.p21_parse.specs.Allowed.{own_number_of, AreAllowed, IsNoName}
 use Rattle.p21_parse.proofs.Complete.{instances_run}
 use Rattle.p21_parse.proofs.Leaves.{Shallow, read_shallow}
 use Rattle.p21_parse.proofs.Languages.{list_calm}
@@ -23,10 +23,6 @@ use Rattle.p21_parse.proofs.Owned.{numbers_append, behind_semicolon, instances_n
 use Rattle.p21_parse.proofs.Appends.{longer_instances}
 use Rattle.p21_parse.proofs.Unique.{same_instance}
 use Rattle.p21_parse.proofs.Fronts.{shallow_open, Longest, broken, one_longest}
-
--- No name stands first.
-abbrev pub IsNoName : List Symbol → Type 0
-IsNoName rest = (n : ℕ) (more : List Symbol) → rest ≡ name n ∷ more → ⊥
 
 -- A front keeps the limits.
 within_front : (most : ℕ) (a b : List Symbol) → IsWithinList most (a ++ b) → IsWithinList most a
@@ -107,23 +103,23 @@ module _ (bytes : List ℕ) (tokens : List Token) (at most : ℕ) where
         let same = one_longest AreInstances (IsWithinList most) (within_front most) here a.front a.back b.front b.back real a.longest b.longest in
         agree r q b.front b.back (subst (λ (front : List Symbol). Says r front b.back) same.0 (subst (λ (back : List Symbol). Says r a.front back) same.1 a.says)) b.says
 
-    module _ (xs : List InstanceTree) (rest : List Symbol) (ok : AllByRecursion IsInstance xs) (nested : greatest instance_nesting xs ≤ 32) (few : length xs ≤ most)
-        (spelled : here ≡ spell_all spell_instance xs rest) (no_name : IsNoName rest) where
+    module _ (xs : List InstanceTree) (rest : List Symbol) (allowed : AreAllowed most xs) (spelled : here ≡ spell_all spell_instance xs rest) (no_name : IsNoName rest) where
       whole_ends : (s : Symbol) (more : List Symbol) → rest ≡ s ∷ more → Begins AreInstances (spell_all spell_instance xs [] ++ s ∷ []) → ⊥
       whole_ends s more e b =
           let w = b.2 in
           let n = goes_on_by_name xs w.0 s b.0 (longer_instances xs [] (s ∷ b.0) ∙ sym (append_assoc (spell_all spell_instance xs []) (s ∷ []) b.0) ∙ w.2) in
-          no_name n.0 more (e ∙ ap (λ (s : Symbol). s ∷ more) n.1)
+          subst IsNoName (e ∙ ap (λ (s : Symbol). s ∷ more) n.1) no_name
 
       -- Whole instances are the longest front.
       whole_longest : Longest AreInstances (IsWithinList most) here (spell_all spell_instance xs []) rest
       whole_longest =
           let front : List Symbol = spell_all spell_instance xs [] in
+          let few = allowed.few in
           let many : length (list_numbers front) ≡ length xs = ap length (instances_numbers xs [] ∙ append-nil (map own_number_of xs)) ∙ length-map xs own_number_of in
-          let ended : Shallow (front ++ endsec ∷ []) = subst Shallow (longer_instances xs [] (endsec ∷ [])) (read_shallow (instances ∷ []) (spell_all spell_instance xs (endsec ∷ [])) 0 list_calm (instances_run 32 xs ok nested)) in
+          let ended : Shallow (front ++ endsec ∷ []) = subst Shallow (longer_instances xs [] (endsec ∷ [])) (read_shallow (instances ∷ []) (spell_all spell_instance xs (endsec ∷ [])) 0 list_calm (instances_run 32 xs allowed.grammar allowed.shallow)) in
           record {
             parts = spelled ∙ longer_instances xs [] rest;
-            good = (([], tt, (xs, ok, append-nil front)), record { shallow = shallow_front false 0 front (endsec ∷ []) ended; few = omega arith });
+            good = (([], tt, (xs, allowed.grammar, append-nil front)), record { shallow = shallow_front false 0 front (endsec ∷ []) ended; few = omega arith });
             ends = λ s more e good. whole_ends s more e good.0;
           }
 
@@ -134,9 +130,9 @@ module _ (bytes : List ℕ) (tokens : List Token) (at most : ℕ) where
           by_refusal r (subst (λ (front : List Symbol). Says r front rest) same.0 (subst (λ (back : List Symbol). Says r t.front back) same.1 t.says))
         where
           by_refusal : (r : Refusal) → Says r (spell_all spell_instance xs []) rest → ⊥
-          by_refusal (syntax p) s = s.2 (xs, ok, refl)
+          by_refusal (syntax p) s = s.2 (xs, allowed.grammar, refl)
           by_refusal (too_deep p) s = whole_ends opening s.0 s.1 s.3
-          by_refusal (too_many p) s = no_name s.0 s.1 s.2
+          by_refusal (too_many p) s = subst IsNoName s.2 no_name
           by_refusal (duplicate n) s = s
 
 -- At most one refusal of instances is right.
@@ -144,6 +140,6 @@ pub single_list : (bytes : List ℕ) (tokens : List Token) (at most : ℕ) (r q 
 single_list bytes tokens at most r q real x y = one_refusal bytes tokens at most (symbols_real bytes (drop at tokens) real) r q x y
 
 -- None is where whole instances within the limits stand before something else.
-pub none_right_list : (bytes : List ℕ) (tokens : List Token) (at most : ℕ) (xs : List InstanceTree) (rest : List Symbol) (r : Refusal) → AllByRecursion (IsToken bytes) (drop at tokens)
-    → AllByRecursion IsInstance xs → greatest instance_nesting xs ≤ 32 → length xs ≤ most → symbols bytes (drop at tokens) ≡ spell_all spell_instance xs rest → IsNoName rest → RefusedFrom bytes tokens at most r → ⊥
-none_right_list bytes tokens at most xs rest r real ok nested few spelled no_name y = not_refused bytes tokens at most (symbols_real bytes (drop at tokens) real) xs rest ok nested few spelled no_name r y
+pub none_right_list : (bytes : List ℕ) (tokens : List Token) (at most : ℕ) (items : List InstanceTree) (rest : List Symbol) (r : Refusal) → AllByRecursion (IsToken bytes) (drop at tokens)
+    → AreAllowed most items → symbols bytes (drop at tokens) ≡ spell_all spell_instance items rest → IsNoName rest → RefusedFrom bytes tokens at most r → ⊥
+none_right_list bytes tokens at most items rest r real allowed spelled no_name y = not_refused bytes tokens at most (symbols_real bytes (drop at tokens) real) items rest allowed spelled no_name r y

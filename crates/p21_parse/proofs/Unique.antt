@@ -1,9 +1,10 @@
 -- Symbols are spelled by at most one tree, and no tree's symbols begin another's.
-use Rattle.std.proofs.Common.{◌≡◌, ℕ, Bool, true, false, List, [], ◌∷◌, codes, refl, sym, ap, ◌∙◌}
+use Rattle.std.proofs.Common.{◌≡◌, ℕ, Bool, true, false, List, [], ◌∷◌, codes, refl, sym, ap, subst, ◌∙◌}
 use Rattle.p21_parse.specs.Tree.{Tree, one, reference, list, typed, Trees, none, first, PartTree, InstanceTree, ExchangeTree}
 use Rattle.p21_parse.specs.Symbol.{Symbol, value, name, keyword, dashed, opening, closing, comma, semicolon, equals}
 use Rattle.p21_parse.specs.Spell.{spell, spell_list, spell_more, spell_all, spell_part, spell_parts, spell_entry, spell_instance, spell_file}
 use Rattle.p21_parse.specs.Machine.{endsec, data_word, end_iso}
+use Rattle.p21_parse.specs.Allowed.{IsNoName}
 
 not_closing : (t : Tree) (r s : List Symbol) → closing ∷ s ≡ spell t r → ⊥
 not_closing (one kind text) r s e = absurd cc
@@ -81,10 +82,9 @@ same_instance i j r s e =
     (λ k. record { number = number k; complex = h.0 k; parts = h.1 k }, h.2)
 
 -- Instances up to what is no name are the same.
-pub same_instances : (xs ys : List InstanceTree) (r s : List Symbol) → ((n : ℕ) (more : List Symbol) → r ≡ name n ∷ more → ⊥) → ((n : ℕ) (more : List Symbol) → s ≡ name n ∷ more → ⊥)
-    → spell_all spell_instance xs r ≡ spell_all spell_instance ys s → (xs ≡ ys) × (r ≡ s)
+pub same_instances : (xs ys : List InstanceTree) (r s : List Symbol) → IsNoName r → IsNoName s → spell_all spell_instance xs r ≡ spell_all spell_instance ys s → (xs ≡ ys) × (r ≡ s)
 same_instances xs ys r s nr ns e =
-    same_all spell_instance same_instance xs ys r s (λ i more h. nr i.number (equals ∷ spell_parts i.complex i.parts (semicolon ∷ more)) h) (λ i more h. ns i.number (equals ∷ spell_parts i.complex i.parts (semicolon ∷ more)) h) e
+    same_all spell_instance same_instance xs ys r s (λ i more h. subst IsNoName h nr) (λ i more h. subst IsNoName h ns) e
 
 same_entry : (p q : PartTree) (r s : List Symbol) → spell_entry p r ≡ spell_entry q s → (p ≡ q) × (r ≡ s)
 same_entry p q r s e = let h = same_part p q (semicolon ∷ r) (semicolon ∷ s) e in (h.0, let ends = h.1 in cc)

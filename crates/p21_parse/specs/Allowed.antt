@@ -1,9 +1,10 @@
 -- Which exchanges may be read and printed.
-use Rattle.std.specs.Prelude.{ℕ, nat_eq, ◌≤◌, List, length, map}
-use Rattle.std.specs.List.{IsDistinct}
+use Rattle.std.specs.Prelude.{ℕ, nat_eq, ◌≤◌, List, [], ◌∷◌, length, map}
+use Rattle.std.specs.List.{AllByRecursion, IsDistinct}
 use Rattle.p21_parse.specs.Tree.{InstanceTree, ExchangeTree}
-use Rattle.p21_parse.specs.Grammar.{IsExchange}
-use Rattle.p21_parse.specs.Nesting.{exchange_nesting}
+use Rattle.p21_parse.specs.Symbol.{Symbol, name}
+use Rattle.p21_parse.specs.Grammar.{IsInstance, IsExchange}
+use Rattle.p21_parse.specs.Nesting.{greatest, instance_nesting, exchange_nesting}
 
 -- the number of an instance's name
 abbrev pub own_number_of : InstanceTree → ℕ
@@ -15,3 +16,15 @@ pub record IsAllowed (x : ExchangeTree) : Type 0 where
   pub shallow : exchange_nesting x ≤ 32
   pub few : length x.items ≤ 200000
   pub distinct : IsDistinct nat_eq (map own_number_of x.items)
+
+-- Instances that the grammar and the limits allow, of which there may be so many at most. A number may come twice.
+pub record AreAllowed (most : ℕ) (items : List InstanceTree) : Type 0 where
+  pub grammar : AllByRecursion IsInstance items
+  pub shallow : greatest instance_nesting items ≤ 32
+  pub few : length items ≤ most
+
+-- No name stands first, so instances have ended there.
+abbrev pub IsNoName : List Symbol → Type 0
+IsNoName [] = Unit {0}
+IsNoName (name n ∷ ss) = ⊥
+IsNoName (s ∷ ss) = Unit {0}

@@ -12,7 +12,7 @@ mod reading;
 
 pub use error::ReadErr;
 pub use exchange::{Exchange, Instance, InstanceList, Part, PartList};
-pub use laws::grammar_laws;
+pub use laws::{grammar_laws, instance_laws};
 pub use param::{Param, ParamList};
 pub use reading::{one_exchange, read};
 
