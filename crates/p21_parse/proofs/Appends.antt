@@ -2,7 +2,7 @@
 use Rattle.std.proofs.Common.{◌≡◌, Bool, true, false, List, [], ◌∷◌, ◌++◌, refl, ap, ◌∙◌}
 use Rattle.p21_parse.specs.Tree.{Tree, one, reference, list, typed, Trees, none, first, PartTree, InstanceTree}
 use Rattle.p21_parse.specs.Symbol.{Symbol, name, keyword, opening, closing, comma, semicolon, equals}
-use Rattle.p21_parse.specs.Spell.{spell, spell_list, spell_more, spell_all, spell_part, spell_parts, spell_entry, spell_instance}
+use Rattle.p21_parse.specs.Spell.{spell, spell_list, spell_more, spell_all, spell_part, spell_parts, spell_instance}
 
 mutual
   longer : (t : Tree) (r more : List Symbol) → spell t (r ++ more) ≡ spell t r ++ more

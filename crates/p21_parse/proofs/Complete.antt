@@ -1,17 +1,16 @@
 -- What is spelled within the limit runs to its end.
-use Rattle.std.proofs.Common.{◌≡◌, ℕ, zero, suc, ◌+◌, ◌≤◌, ◌<◌, max, Bool, true, false, cond, nat_lt, List, [], ◌∷◌, ◌++◌, length, codes, refl, sym, ap, subst, ◌∙◌, arith}
+use Rattle.std.proofs.Common.{◌≡◌, ℕ, zero, suc, ◌+◌, ◌≤◌, ◌<◌, Bool, true, false, cond, nat_lt, List, [], ◌∷◌, ◌++◌, length, codes, refl, ap, ◌∙◌, arith}
 use Rattle.std.specs.List.{AllByRecursion}
 use Rattle.std.specs.Str.{bytes_eq}
 use Rattle.std.proofs.lemmas.Slice.Eq.{bytes_eq-Decides}
 use Rattle.std.proofs.lemmas.Bool.Decides.{nat_tests}
-use Rattle.p21_lex.specs.declared.token.TokenKind.{TokenKind}
 use Rattle.p21_lex.specs.declared.token.TokenKind.TheVariants.{Text}
 use Rattle.p21_parse.specs.Tree.{Tree, one, reference, list, typed, Trees, none, first, count, PartTree, InstanceTree, ExchangeTree}
-use Rattle.p21_parse.specs.Symbol.{Symbol, keyword, dashed, opening, closing, comma, semicolon}
+use Rattle.p21_parse.specs.Symbol.{Symbol, keyword, opening, closing, semicolon}
 use Rattle.p21_parse.specs.Spell.{spell, spell_list, spell_more, spell_all, spell_part, spell_parts, spell_entry, spell_instance, spell_file}
 use Rattle.p21_parse.specs.Grammar.{IsParameter, AreParameters, IsPart, HasParts, IsInstance, IsNamed, IsText, AreTexts, IsTextList, IsSchema, IsEntry, IsHead, IsExchange}
 use Rattle.p21_parse.specs.Nesting.{nesting, nestings, greatest, part_nesting, instance_nesting, exchange_nesting}
-use Rattle.p21_parse.specs.Machine.{Item, fixed, parameter, parameter_list, more_parameters, schema, more_schemas, part, more_parts, body, instances, entries, entry_or_end, Outcome, done, deep, goes_on, run, entry_or, counted, named, iso, header, data_word, endsec, end_iso, end_items, data_items, schema_items, file_items}
+use Rattle.p21_parse.specs.Machine.{Item, fixed, parameter, parameter_list, more_parameters, schema, more_schemas, part, more_parts, body, instances, entries, Outcome, done, deep, goes_on, run, entry_or, counted, named, data_word, endsec, end_iso, end_items, data_items, schema_items, file_items}
 
 below : (most n : ℕ) → n ≤ most → nat_lt most n ≡ false
 below most n h = grind (arith, nat_tests)

@@ -1,11 +1,11 @@
 -- What is still to come can always come: each stack of items can be ended by symbols of tokens.
-use Rattle.std.proofs.Common.{◌≡◌, ℕ, zero, suc, pred, ◌+◌, ◌≤◌, ◌<◌, Bool, true, false, cond, nat_lt, ◌&&◌, List, [], ◌∷◌, ◌++◌, length, codes, refl, sym, ap, subst, ◌∙◌, append_assoc, arith}
+use Rattle.std.proofs.Common.{◌≡◌, ℕ, suc, pred, ◌+◌, ◌≤◌, Bool, true, false, ◌&&◌, List, [], ◌∷◌, ◌++◌, length, codes, refl, ap, ◌∙◌, arith}
 use Rattle.std.specs.List.{AllByRecursion}
 use Rattle.p21_lex.specs.declared.token.TokenKind.TheVariants as kinds
 use Rattle.p21_lex.specs.Class.{is_word, Each}
 use Rattle.p21_parse.specs.Symbol.{Symbol, value, name, keyword, dashed, opening, closing, comma, semicolon, equals}
 use Rattle.p21_parse.specs.Begins.{IsSymbol}
-use Rattle.p21_parse.specs.Machine.{Item, fixed, parameter, parameter_list, more_parameters, schema, more_schemas, part, more_parts, behind_name, body, instances, entries, entry_or_end, Outcome, done, same, on, open_in, goes_on, run, endsec}
+use Rattle.p21_parse.specs.Machine.{Item, fixed, parameter, parameter_list, more_parameters, schema, more_schemas, part, more_parts, behind_name, body, instances, entries, entry_or_end, done, same, on, open_in, goes_on, run, endsec}
 use Rattle.p21_parse.proofs.Complete.{step}
 use Rattle.p21_parse.proofs.Trace.{Closable, Quiet, Calm, fixed_opening, fixed_closing, fixed_semicolon}
 

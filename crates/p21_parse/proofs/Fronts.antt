@@ -1,7 +1,7 @@
 -- The longest front of symbols that begins a text of a language within limits.
-use Rattle.std.proofs.Common.{◌≡◌, ℕ, ◌≤◌, nat_lt, Bool, true, false, List, [], ◌∷◌, ◌++◌, length, refl, sym, ap, subst, ◌∙◌, append_assoc, append-nil, inl, inr, ◌⊎◌, arith}
+use Rattle.std.proofs.Common.{◌≡◌, ℕ, ◌≤◌, nat_lt, Bool, true, false, List, [], ◌∷◌, ◌++◌, length, refl, sym, subst, ◌∙◌, append_assoc, append-nil, inl, inr, ◌⊎◌, arith}
 use Rattle.std.specs.List.{AllByRecursion}
-use Rattle.p21_parse.specs.Symbol.{Symbol, opening}
+use Rattle.p21_parse.specs.Symbol.{Symbol}
 use Rattle.p21_parse.specs.Nesting.{is_equals, open_after, open_behind, IsShallow}
 use Rattle.p21_parse.specs.Begins.{IsSymbol, Begins}
 use Rattle.p21_parse.proofs.Leaves.{above}

@@ -1,18 +1,18 @@
 -- Inside an instance.
-use Rattle.std.proofs.Common.{◌≡◌, ℕ, zero, suc, ◌+◌, ◌≤◌, Bool, true, false, List, [], ◌∷◌, ◌++◌, length, refl, sym, ap, subst, ◌∙◌, append_assoc, append-nil, length-append, arith}
+use Rattle.std.proofs.Common.{◌≡◌, ℕ, suc, ◌≤◌, Bool, false, List, [], ◌∷◌, ◌++◌, length, refl, sym, ap, subst, ◌∙◌, append_assoc, append-nil, length-append, arith}
 use Rattle.std.specs.List.{AllByRecursion}
 use Rattle.p21_parse.specs.Tree.{PartTree, InstanceTree}
 use Rattle.p21_parse.specs.Symbol.{Symbol, name, opening, semicolon, equals}
 use Rattle.p21_parse.specs.Spell.{spell_all, spell_parts, spell_instance}
-use Rattle.p21_parse.specs.Grammar.{IsPart, HasParts, IsInstance, AreInstances}
+use Rattle.p21_parse.specs.Grammar.{IsPart, HasParts, AreInstances}
 use Rattle.p21_parse.specs.Nesting.{greatest, part_nesting}
 use Rattle.p21_parse.specs.Begins.{IsSymbol, Begins, StopsAt, DeepAt}
-use Rattle.p21_parse.specs.Machine.{Item, fixed, behind_name, body, instances, Outcome, done, stuck, deep, run}
+use Rattle.p21_parse.specs.Machine.{Item, fixed, behind_name, done, stuck, deep, run}
 use Rattle.p21_parse.proofs.Complete.{step, run-body}
 use Rattle.p21_parse.proofs.Sound.{behind_first}
 use Rattle.p21_parse.proofs.Trace.{Calm, fixed_semicolon}
 use Rattle.p21_parse.proofs.Leaves.{Shallow, Stopped, stopped, deepened}
-use Rattle.p21_parse.proofs.Languages.{but_last, Last, last_of}
+use Rattle.p21_parse.proofs.Languages.{but_last, last_of}
 use Rattle.p21_parse.specs.Numbers.{numbers_in}
 use Rattle.p21_parse.proofs.Owned.{parts_numbers, no_numbers}
 use Rattle.p21_parse.proofs.Appends.{longer_parts, longer_instances}

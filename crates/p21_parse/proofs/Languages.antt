@@ -1,17 +1,17 @@
 -- Files and instances are what the machine reads, and where it ends they end.
-use Rattle.std.proofs.Common.{◌≡◌, ℕ, zero, suc, ◌+◌, ◌≤◌, ◌<◌, false, List, [], ◌∷◌, ◌++◌, length, codes, refl, sym, ap, subst, ◌∙◌, append_assoc, append-nil, arith}
+use Rattle.std.proofs.Common.{◌≡◌, ℕ, zero, suc, ◌≤◌, ◌<◌, false, List, [], ◌∷◌, ◌++◌, length, codes, refl, sym, ap, subst, ◌∙◌, append_assoc, append-nil}
 use Rattle.std.specs.List.{AllByRecursion}
 use Rattle.p21_lex.specs.declared.token.TokenKind.TheVariants as kinds
 use Rattle.p21_parse.specs.Tree.{InstanceTree}
 use Rattle.p21_parse.specs.Symbol.{Symbol, name, keyword, dashed, opening, comma, semicolon}
-use Rattle.p21_parse.specs.Spell.{spell_all, spell_instance, spell_file}
+use Rattle.p21_parse.specs.Spell.{spell_all, spell_instance}
 use Rattle.p21_parse.specs.Grammar.{IsFile, AreInstances, IsInstance}
 use Rattle.p21_parse.specs.Nesting.{exchange_nesting, greatest, instance_nesting}
 use Rattle.p21_parse.specs.Begins.{IsSymbol, Begins, StopsAt, DeepAt}
-use Rattle.p21_parse.specs.Machine.{Item, fixed, parameter, instances, Outcome, done, stuck, deep, run, counted, named, iso, end_iso, header, data_word, endsec, end_items, data_items, schema_items, file_items}
+use Rattle.p21_parse.specs.Machine.{Item, fixed, instances, done, stuck, deep, run, counted, named, iso, end_iso, header, data_word, endsec, end_items, data_items, schema_items, file_items}
 use Rattle.p21_parse.proofs.Complete.{file_runs, instances_run, itself}
 use Rattle.p21_parse.proofs.Sound.{file_read, instances_read}
-use Rattle.p21_parse.proofs.Trace.{Closable, Quiet, Calm, fixed_opening, fixed_closing, fixed_semicolon}
+use Rattle.p21_parse.proofs.Trace.{Quiet, Calm, fixed_opening, fixed_closing, fixed_semicolon}
 use Rattle.p21_parse.proofs.Finish.{word_each, real_append, endsec_real}
 use Rattle.p21_parse.proofs.Appends.{longer_instances}
 use Rattle.p21_parse.proofs.Leaves.{Shallow, Stopped, left_of, stopped, stopped_late, deepened, read_shallow}

@@ -1,12 +1,11 @@
 -- Where the machine goes no further, the text leaves the language.
-use Rattle.std.proofs.Common.{◌≡◌, ℕ, zero, suc, ◌+◌, ◌-◌, ◌≤◌, ◌<◌, pred, Bool, true, false, nat_lt, List, [], ◌∷◌, ◌++◌, length, take, Option, Some, None, refl, sym, ap, subst, ◌∙◌, append_assoc, append-nil, length-append, arith}
-use Rattle.std.specs.List.{AllByRecursion}
+use Rattle.std.proofs.Common.{◌≡◌, ℕ, ◌+◌, ◌≤◌, ◌<◌, pred, Bool, true, false, nat_lt, List, [], ◌∷◌, ◌++◌, length, Option, Some, None, refl, sym, ap, subst, ◌∙◌, append_assoc, append-nil, arith}
 use Rattle.std.proofs.lemmas.Bool.Decides.{nat_tests}
 use Rattle.p21_parse.specs.Symbol.{Symbol, opening, closing}
-use Rattle.p21_parse.specs.Nesting.{open_after, open_behind, IsShallow, is_equals}
-use Rattle.p21_parse.specs.Begins.{IsSymbol, Begins, StopsAt, DeepAt}
+use Rattle.p21_parse.specs.Nesting.{open_after, IsShallow}
+use Rattle.p21_parse.specs.Begins.{Begins, StopsAt, DeepAt}
 use Rattle.p21_parse.specs.Machine.{Item, Outcome, done, stuck, deep, after, open_in, goes_on, run}
-use Rattle.p21_parse.proofs.Trace.{is_body, Calm, Trace, trace, Ends, Refused, same_open, stays_calm, stepped}
+use Rattle.p21_parse.proofs.Trace.{is_body, Calm, trace, Ends, Refused, same_open, stays_calm, stepped}
 use Rattle.p21_parse.proofs.Finish.{finished}
 
 -- Nothing that is still to come begins so.

@@ -1,14 +1,13 @@
 -- Names of instances before the place where the machine ends.
-use Rattle.std.proofs.Common.{◌≡◌, ℕ, zero, suc, ◌+◌, ◌-◌, ◌≤◌, ◌<◌, Bool, true, false, cond, nat_lt, List, [], ◌∷◌, ◌++◌, length, take, drop, map, Option, Some, None, refl, sym, ap, subst, ◌∙◌, append_assoc, length-append, nat_eq, arith}
-use Rattle.std.specs.List.{AllByRecursion, IsDistinct}
+use Rattle.std.proofs.Common.{◌≡◌, ℕ, suc, ◌≤◌, Bool, true, false, cond, nat_lt, List, [], ◌∷◌, ◌++◌, length, Option, Some, None, refl, sym, ap, subst, ◌∙◌, append_assoc, length-append, arith}
+use Rattle.std.specs.List.{AllByRecursion}
 use Rattle.p21_lex.specs.declared.token.Token.{Token}
 use Rattle.p21_lex.specs.Reading.{IsToken}
-use Rattle.p21_parse.specs.Symbol.{Symbol, name, symbol_of, symbols, text_of}
-use Rattle.p21_parse.specs.Grammar.{IsFile, AreInstances}
+use Rattle.p21_parse.specs.Symbol.{Symbol, symbols, text_of}
 use Rattle.p21_parse.specs.Nesting.{is_equals, open_after, IsShallow}
-use Rattle.p21_parse.specs.Begins.{IsSymbol, Begins, StopsAt, DeepAt, ManyAt, TwiceAt}
-use Rattle.p21_parse.specs.Machine.{Item, instances, Outcome, done, stuck, deep, goes_on, after, open_in, run, file_items}
-use Rattle.p21_parse.proofs.Trace.{Calm, Trace, trace}
+use Rattle.p21_parse.specs.Begins.{IsSymbol, Begins}
+use Rattle.p21_parse.specs.Machine.{Item, done, deep, goes_on, after, open_in, run}
+use Rattle.p21_parse.proofs.Trace.{Calm, trace}
 use Rattle.p21_parse.proofs.Leaves.{Shallow, left_of, left_at, lives}
 use Rattle.p21_parse.proofs.Finish.{real_append}
 

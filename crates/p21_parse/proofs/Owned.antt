@@ -1,7 +1,7 @@
 -- The numbers of the instances in what is spelled.
-use Rattle.std.proofs.Common.{◌≡◌, ℕ, Bool, true, false, List, [], ◌∷◌, ◌++◌, map, refl, sym, ap, ◌∙◌, append_assoc}
+use Rattle.std.proofs.Common.{◌≡◌, ℕ, Bool, true, false, List, [], ◌∷◌, ◌++◌, map, refl, sym, ap, ◌∙◌}
 use Rattle.p21_parse.specs.Tree.{Tree, one, reference, list, typed, Trees, none, first, PartTree, InstanceTree}
-use Rattle.p21_parse.specs.Symbol.{Symbol, value, name, keyword, dashed, opening, closing, comma, semicolon, equals}
+use Rattle.p21_parse.specs.Symbol.{Symbol, name, closing, semicolon}
 use Rattle.p21_parse.specs.Spell.{spell, spell_list, spell_more, spell_all, spell_part, spell_parts, spell_entry, spell_instance}
 use Rattle.p21_parse.specs.Numbers.{own_number, is_semicolon, numbers_in}
 use Rattle.p21_parse.specs.Allowed.{own_number_of}

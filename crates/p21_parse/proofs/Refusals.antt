@@ -1,20 +1,20 @@
 -- The refusals of a file and of instances, from where the machine ends.
-use Rattle.std.proofs.Common.{◌≡◌, ℕ, zero, suc, ◌+◌, ◌-◌, ◌≤◌, ◌<◌, false, true, List, [], ◌∷◌, ◌++◌, length, map, take, drop, refl, sym, ap, subst, ◌∙◌, append_assoc, length-append, nat_eq, arith}
+use Rattle.std.proofs.Common.{◌≡◌, ℕ, suc, ◌-◌, ◌≤◌, ◌<◌, List, [], ◌∷◌, ◌++◌, length, map, take, drop, refl, sym, ap, subst, ◌∙◌, length-append, nat_eq, arith}
 use Rattle.std.specs.List.{AllByRecursion, IsDistinct}
 use Rattle.std.proofs.Math.Seq.{take-append_seam}
 use Rattle.p21_lex.specs.declared.token.Token.{Token}
 use Rattle.p21_lex.specs.Reading.{IsToken}
 use Rattle.p21_parse.specs.Tree.{InstanceTree}
-use Rattle.p21_parse.specs.Symbol.{Symbol, name, opening, semicolon, symbol_of, symbols}
+use Rattle.p21_parse.specs.Symbol.{Symbol, name, opening, semicolon, symbols}
 use Rattle.p21_parse.specs.Spell.{spell_all, spell_instance}
 use Rattle.p21_parse.specs.Grammar.{IsFile, AreInstances}
-use Rattle.p21_parse.specs.Begins.{IsSymbol, Begins, StopsAt, DeepAt, ManyAt, TwiceAt}
-use Rattle.p21_parse.specs.Places.{Refusal, syntax, too_deep, too_many, duplicate, place_of}
+use Rattle.p21_parse.specs.Begins.{StopsAt, DeepAt}
+use Rattle.p21_parse.specs.Places.{syntax, too_deep, too_many, duplicate, place_of}
 use Rattle.p21_parse.specs.Refused.{file_numbers, IsWithin, RefusedAt, list_numbers, IsWithinList, RefusedFrom}
 use Rattle.p21_parse.specs.Machine.{Item, fixed, behind_name, instances, Outcome, done, stuck, deep, run, file_items}
-use Rattle.p21_parse.proofs.Leaves.{Shallow, Stopped, left_of}
+use Rattle.p21_parse.proofs.Leaves.{Shallow, left_of}
 use Rattle.p21_parse.proofs.Languages.{file_stopped, file_late, file_deepened, list_stopped, list_deepened, file_read_at, list_read_at}
-use Rattle.p21_parse.proofs.Inside.{behind_items, inside_open, same_front, Inner, stuck_inside, deep_inside}
+use Rattle.p21_parse.proofs.Inside.{inside_open, same_front, Inner, stuck_inside, deep_inside}
 use Rattle.p21_parse.proofs.Named.{symbols_real, left_within}
 use Rattle.p21_parse.proofs.Owned.{instances_numbers}
 use Rattle.p21_parse.proofs.Appends.{longer_instances}

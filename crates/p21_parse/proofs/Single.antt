@@ -1,24 +1,23 @@
 -- At most one refusal is right, and none where the text is an allowed file.
-use Rattle.std.proofs.Common.{◌≡◌, ℕ, zero, suc, pred, ◌+◌, ◌-◌, ◌≤◌, ◌<◌, nat_lt, Bool, true, false, List, [], ◌∷◌, ◌++◌, length, map, drop, refl, sym, ap, subst, ◌∙◌, append_assoc, append-nil, length-append, nat_eq, inl, inr, ◌⊎◌, arith}
+use Rattle.std.proofs.Common.{◌≡◌, ℕ, ◌+◌, ◌≤◌, ◌<◌, false, List, [], ◌∷◌, ◌++◌, length, map, refl, sym, ap, subst, ◌∙◌, append-nil, length-append, nat_eq, arith}
 use Rattle.std.specs.List.{AllByRecursion, IsDistinct}
 use Rattle.std.proofs.lemmas.List.{length-map}
 use Rattle.p21_lex.specs.declared.token.Token.{Token}
 use Rattle.p21_lex.specs.Reading.{IsToken}
-use Rattle.p21_parse.specs.Tree.{InstanceTree, ExchangeTree}
-use Rattle.p21_parse.specs.Symbol.{Symbol, name, opening, closing, semicolon, symbols}
+use Rattle.p21_parse.specs.Tree.{ExchangeTree}
+use Rattle.p21_parse.specs.Symbol.{Symbol, name, opening, semicolon, symbols}
 use Rattle.p21_parse.specs.Spell.{spell_file}
 use Rattle.p21_parse.specs.Grammar.{IsFile}
-use Rattle.p21_parse.specs.Nesting.{is_equals, open_after, open_behind, IsShallow}
 use Rattle.p21_parse.specs.Numbers.{numbers_in}
 use Rattle.p21_parse.specs.Machine.{endsec, end_iso, done, run, file_items}
-use Rattle.p21_parse.specs.Begins.{IsSymbol, Begins, StopsAt, DeepAt, ManyAt, TwiceAt}
+use Rattle.p21_parse.specs.Begins.{IsSymbol, Begins}
 use Rattle.p21_parse.specs.Places.{Refusal, syntax, too_deep, too_many, duplicate, place_of}
 use Rattle.p21_parse.specs.Refused.{file_numbers, IsWithin, RefusedAt}
 use Rattle.p21_parse.specs.Allowed.{own_number_of, IsAllowed}
 use Rattle.p21_parse.proofs.Fronts.{shallow_open, Longest, broken, one_longest}
 use Rattle.p21_parse.proofs.Complete.{file_runs}
 use Rattle.p21_parse.proofs.Languages.{file_shallow}
-use Rattle.p21_parse.proofs.Named.{symbols_real, longer_front, shallow_front, real_front, real_back, begins_front}
+use Rattle.p21_parse.proofs.Named.{symbols_real, shallow_front}
 use Rattle.p21_parse.proofs.Owned.{numbers_append, behind_semicolon, file_to_numbers}
 
 apart_front : (x : ℕ) (xs ys : List ℕ) → AllByRecursion (λ y. nat_eq x y ≡ false) (xs ++ ys) → AllByRecursion (λ y. nat_eq x y ≡ false) xs

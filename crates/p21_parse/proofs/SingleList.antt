@@ -1,24 +1,23 @@
 -- At most one refusal of instances is right, and none where whole instances within the limits stand before something else.
-use Rattle.std.proofs.Common.{◌≡◌, ℕ, zero, suc, ◌+◌, ◌-◌, ◌≤◌, ◌<◌, false, true, List, [], ◌∷◌, ◌++◌, length, map, drop, refl, sym, ap, subst, ◌∙◌, append_assoc, append-nil, length-append, arith}
+use Rattle.std.proofs.Common.{◌≡◌, ℕ, ◌+◌, false, true, List, [], ◌∷◌, ◌++◌, length, map, drop, refl, sym, ap, subst, ◌∙◌, append_assoc, append-nil, length-append, arith}
 use Rattle.std.specs.List.{AllByRecursion}
 use Rattle.std.proofs.lemmas.List.{length-map}
 use Rattle.p21_lex.specs.declared.token.Token.{Token}
 use Rattle.p21_lex.specs.Reading.{IsToken}
 use Rattle.p21_parse.specs.Tree.{InstanceTree}
-use Rattle.p21_parse.specs.Symbol.{Symbol, name, opening, equals, semicolon, symbols}
-use Rattle.p21_parse.specs.Spell.{spell_all, spell_parts, spell_instance}
-use Rattle.p21_parse.specs.Grammar.{IsInstance, AreInstances}
-use Rattle.p21_parse.specs.Nesting.{greatest, instance_nesting}
+use Rattle.p21_parse.specs.Symbol.{Symbol, name, opening, symbols}
+use Rattle.p21_parse.specs.Spell.{spell_all, spell_instance}
+use Rattle.p21_parse.specs.Grammar.{AreInstances}
 use Rattle.p21_parse.specs.Numbers.{numbers_in}
-use Rattle.p21_parse.specs.Machine.{endsec, instances, done, run}
-use Rattle.p21_parse.specs.Begins.{IsSymbol, Begins, StopsAt, DeepAt, ManyAt}
+use Rattle.p21_parse.specs.Machine.{endsec, instances}
+use Rattle.p21_parse.specs.Begins.{IsSymbol, Begins}
 use Rattle.p21_parse.specs.Places.{Refusal, syntax, too_deep, too_many, duplicate, place_of}
 use Rattle.p21_parse.specs.Refused.{list_numbers, IsWithinList, RefusedFrom}
 use Rattle.p21_parse.specs.Allowed.{own_number_of, AreAllowed, IsNoName}
 use Rattle.p21_parse.proofs.Complete.{instances_run}
 use Rattle.p21_parse.proofs.Leaves.{Shallow, read_shallow}
 use Rattle.p21_parse.proofs.Languages.{list_calm}
-use Rattle.p21_parse.proofs.Named.{symbols_real, shallow_front, real_back}
+use Rattle.p21_parse.proofs.Named.{symbols_real, shallow_front}
 use Rattle.p21_parse.proofs.Owned.{numbers_append, behind_semicolon, instances_numbers}
 use Rattle.p21_parse.proofs.Appends.{longer_instances}
 use Rattle.p21_parse.proofs.Unique.{same_instance}

@@ -1,7 +1,7 @@
 -- Symbols are spelled by at most one tree, and no tree's symbols begin another's.
-use Rattle.std.proofs.Common.{◌≡◌, ℕ, Bool, true, false, List, [], ◌∷◌, codes, refl, sym, ap, subst, ◌∙◌}
+use Rattle.std.proofs.Common.{◌≡◌, Bool, true, false, List, [], ◌∷◌, refl, sym, ap, subst}
 use Rattle.p21_parse.specs.Tree.{Tree, one, reference, list, typed, Trees, none, first, PartTree, InstanceTree, ExchangeTree}
-use Rattle.p21_parse.specs.Symbol.{Symbol, value, name, keyword, dashed, opening, closing, comma, semicolon, equals}
+use Rattle.p21_parse.specs.Symbol.{Symbol, closing, semicolon}
 use Rattle.p21_parse.specs.Spell.{spell, spell_list, spell_more, spell_all, spell_part, spell_parts, spell_entry, spell_instance, spell_file}
 use Rattle.p21_parse.specs.Machine.{endsec, data_word, end_iso}
 use Rattle.p21_parse.specs.Allowed.{IsNoName}
