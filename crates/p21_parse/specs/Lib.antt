@@ -9,6 +9,7 @@ pub mod Machine
 pub mod Begins
 pub mod Places
 pub mod Refused
+pub mod Allowed
 pub mod PlainFile
 pub mod Parse
 pub mod Source

@@ -19,10 +19,10 @@ pub record IsWithin (front : List Symbol) : Type 0 where
   pub few : length (file_numbers front) ≤ 200000
   pub distinct : IsDistinct nat_eq (file_numbers front)
 
--- What the refusal of a text is: whichever stands at the earliest token.
+-- What the refusal of a text is: whichever stands at the earliest token. A whole file has no place of Syntax.
 abbrev pub RefusedAt : List ℕ → List Token → Refusal → Type 0
 RefusedAt bytes tokens (syntax place) =
-    (left : ℕ) × StopsAt IsFile IsWithin (symbols bytes tokens) left × (place ≡ place_of bytes tokens left)
+    (left : ℕ) × StopsAt IsFile IsWithin (symbols bytes tokens) left × (IsFile (symbols bytes tokens) → ⊥) × (place ≡ place_of bytes tokens left)
 RefusedAt bytes tokens (too_deep place) =
     (left : ℕ) × DeepAt IsFile IsWithin (symbols bytes tokens) left × (place ≡ place_of bytes tokens left)
 RefusedAt bytes tokens (too_many place) =
@@ -38,10 +38,11 @@ pub record IsWithinList (most : ℕ) (front : List Symbol) : Type 0 where
   pub shallow : IsShallow false 0 front
   pub few : length (list_numbers front) ≤ most
 
--- What the refusal of instances is that begin at a token: whichever stands earliest. Duplicate never comes.
+-- What the refusal of instances is that begin at a token: whichever stands earliest. Behind whole instances there is no place of Syntax, and Duplicate
+-- never comes.
 abbrev pub RefusedFrom : List ℕ → List Token → ℕ → ℕ → Refusal → Type 0
 RefusedFrom bytes tokens at most (syntax place) =
-    (left : ℕ) × StopsAt AreInstances (IsWithinList most) (symbols bytes (drop at tokens)) left × (place ≡ place_of bytes tokens left)
+    (left : ℕ) × (stop : StopsAt AreInstances (IsWithinList most) (symbols bytes (drop at tokens)) left) × (AreInstances stop.front → ⊥) × (place ≡ place_of bytes tokens left)
 RefusedFrom bytes tokens at most (too_deep place) =
     (left : ℕ) × DeepAt AreInstances (IsWithinList most) (symbols bytes (drop at tokens)) left × (place ≡ place_of bytes tokens left)
 RefusedFrom bytes tokens at most (too_many place) =

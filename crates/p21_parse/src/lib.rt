@@ -5,6 +5,7 @@ mod distinct;
 mod error;
 mod exchange;
 mod header;
+mod laws;
 mod layout;
 mod param;
 mod parameters;
@@ -15,6 +16,7 @@ mod source;
 
 pub use error::ReadErr;
 pub use exchange::{Exchange, Instance, InstanceList, Part, PartList};
+pub use laws::{grammar_laws, instance_laws};
 pub use param::{Param, ParamList};
 pub use reading::{one_exchange, read};
 

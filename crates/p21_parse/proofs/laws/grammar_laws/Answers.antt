@@ -1,0 +1,6 @@
+use Rattle.p21_parse.proofs.Unique.{same_file}
+use Rattle.p21_parse.proofs.Single.{single, none_right}
+use Rattle.p21_parse.proofs.laws.grammar_laws.Goals as goal
+
+pub returns : goal.returns
+returns c = record { one = same_file; single = single; allowed = none_right }

@@ -1,0 +1,34 @@
+//! What holds of the grammar and its refusals whatever reads it.
+
+ghost use Rattle.std.specs.Prelude.{ℕ, List, ◌≡◌, drop};
+ghost use Rattle.std.specs.List.{AllByRecursion};
+ghost use Rattle.p21_lex.specs.declared.token.Token.{Token};
+ghost use Rattle.p21_lex.specs.Reading.{IsToken};
+ghost use Rattle.p21_parse.specs.Tree.{InstanceTree, ExchangeTree};
+ghost use Rattle.p21_parse.specs.Symbol.{Symbol, symbols};
+ghost use Rattle.p21_parse.specs.Spell.{spell_all, spell_instance, spell_file};
+ghost use Rattle.p21_parse.specs.Places.{Refusal};
+ghost use Rattle.p21_parse.specs.Refused.{RefusedAt, RefusedFrom};
+ghost use Rattle.p21_parse.specs.Allowed.{IsAllowed, AreAllowed, IsNoName};
+
+/// The laws of the grammar (ISO 10303-21, exchange structure, in this profile): symbols spell at most one exchange, tokens
+/// have at most one refusal, and none where they spell an exchange within the limits. It does nothing.
+pub fn grammar_laws()
+    ensures one { (x y : ExchangeTree) → spell_file x ≡ spell_file y → x ≡ y }
+    ensures single { (bytes : List ℕ) (tokens : List Token) (r q : Refusal) → AllByRecursion (IsToken bytes) tokens
+        → RefusedAt bytes tokens r → RefusedAt bytes tokens q → r ≡ q }
+    ensures allowed { (bytes : List ℕ) (tokens : List Token) (x : ExchangeTree) (r : Refusal) → AllByRecursion (IsToken bytes) tokens
+        → IsAllowed x → symbols bytes tokens ≡ spell_file x → RefusedAt bytes tokens r → ⊥ }
+{}
+
+/// The same of instances alone: those up to a token that is no name are given by their symbols, and what refuses them is
+/// one refusal at most, and none where they keep the limits. It does nothing.
+pub fn instance_laws()
+    ensures one { (xs ys : List InstanceTree) (rest more : List Symbol) → IsNoName rest → IsNoName more
+        → spell_all spell_instance xs rest ≡ spell_all spell_instance ys more → (xs ≡ ys) × (rest ≡ more) }
+    ensures single { (bytes : List ℕ) (tokens : List Token) (at most : ℕ) (r q : Refusal) → AllByRecursion (IsToken bytes) (drop at tokens)
+        → RefusedFrom bytes tokens at most r → RefusedFrom bytes tokens at most q → r ≡ q }
+    ensures allowed { (bytes : List ℕ) (tokens : List Token) (at most : ℕ) (items : List InstanceTree) (rest : List Symbol) (r : Refusal)
+        → AllByRecursion (IsToken bytes) (drop at tokens) → AreAllowed most items
+        → symbols bytes (drop at tokens) ≡ spell_all spell_instance items rest → IsNoName rest → RefusedFrom bytes tokens at most r → ⊥ }
+{}
