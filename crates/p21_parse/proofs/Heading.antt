@@ -10,12 +10,12 @@ use Rattle.p21_parse.specs.declared.source.Stop.TheVariants.{Syntax}
 use Rattle.p21_parse.specs.Tree.{Tree, one, reference, list, typed, Trees, none, first, trees, count, with_last, PartTree}
 use Rattle.p21_parse.specs.Symbol.{Symbol, value, name, keyword, dashed, opening, closing, comma, semicolon, equals, word, has_hyphen}
 use Rattle.p21_parse.specs.Spell.{spell, spell_list, spell_entry, spell_part, spell_all}
-use Rattle.p21_parse.specs.Grammar.{IsParameter, AreParameters, IsText, AreTexts, IsTextList, IsNamed, IsSchema, IsEntry, IsPart}
+use Rattle.p21_parse.specs.Grammar.{IsParameter, AreParameters, IsText, AreTexts, IsTextList, IsNamed, IsSchema, IsEntry, IsHead, IsPart}
 use Rattle.p21_parse.specs.Nesting.{nesting, nestings, part_nesting, greatest}
 use Rattle.p21_parse.specs.Machine.{Item, fixed, parameter, more_parameters, schema, more_schemas, counted, named, entries, entry_or_end, entry_or, endsec, same, on, after, open_in, goes_on, run}
 use Rattle.p21_lex.specs.declared.token.TokenKind.{TokenKind}
 use Rattle.p21_lex.specs.declared.token.TokenKind.TheVariants as kinds
-use Rattle.p21_parse.specs.Source.{from, Stops, Has, IsRead, IsRefused, IsNotHead, IsOther, HasNoText, HasNoKeyword, AreNames, schema_entry, IsEnd, IsNoEnd, EntryRead, EntriesRefused}
+use Rattle.p21_parse.specs.Source.{from, Stops, Has, IsRead, IsRefused, IsNotHead, IsOther, HasNoText, HasNoKeyword, AreNames, schema_entry, IsEnd, IsNoEnd, EntryRead, EntriesRefused, EntriesRead, head_items}
 use Rattle.p21_parse.proofs.ListLemmas.{trees-push}
 use Rattle.p21_parse.proofs.Moves.{Sticks, step, both, took, first_refused, second_refused, opened, opened_refused, stopped, instead, instead_refused, respelled}
 use Rattle.p21_parse.proofs.Listing.{further, further_more, further_closed, are_more, nests_more}
@@ -474,11 +474,15 @@ end_alike (comma ∷ ss) stack h = refl
 end_alike (semicolon ∷ ss) stack h = refl
 end_alike (equals ∷ ss) stack h = refl
 
-module _ (s : Source) (at : ℕ) where
-  pub none_entered : (ps : List PartTree) → ps ≡ [] → at ≤ length s.tokens.now → Entered s at at ps
-  none_entered ps is_none le = subst (Entered s at at) (sym is_none) (record { onward = omega arith; inside = le; spells = refl; goes = λ stack. refl; are = tt; nests = omega arith })
+-- behind those read before
+abbrev pub Behind : Source → ℕ → ℕ → List PartTree → List PartTree → Type 0
+Behind s at rest before whole = (ps : List PartTree) × (whole ≡ before ++ ps) × Entered s at rest ps
 
-  pub one_entered : (rest after : ℕ) (p : PartTree) (ps new : List PartTree) → new ≡ ps ++ p ∷ [] → Entered s at rest ps → EntryRead s rest after (spell_entry p) → IsEntry p × (part_nesting p ≤ 32) → Entered s at after new
+module _ (s : Source) (at : ℕ) where
+  pub none_entered : (before : List PartTree) → at ≤ length s.tokens.now → Behind s at at before before
+  none_entered before le = ([], sym (append-nil before), record { onward = omega arith; inside = le; spells = refl; goes = λ stack. refl; are = tt; nests = omega arith })
+
+  one_entered : (rest after : ℕ) (p : PartTree) (ps new : List PartTree) → new ≡ ps ++ p ∷ [] → Entered s at rest ps → EntryRead s rest after (spell_entry p) → IsEntry p × (part_nesting p ≤ 32) → Entered s at after new
   one_entered rest after p ps new pushed l read is = subst (Entered s at after) (sym pushed) (record {
     onward = omega (arith, l.onward, read.onward);
     inside = read.inside;
@@ -507,3 +511,62 @@ module _ (s : Source) (at : ℕ) where
         spells = l.spells ∙ ap (λ (ss : List Symbol). spell_all spell_entry ps ss) (end.0.first ∙ ap (λ (ss : List Symbol). endsec ∷ ss) has.first);
         goes = λ stack. goes_out rest ps l end stack ∙ out.goes stack;
       })
+
+  pub one_behind : (rest after : ℕ) (p : PartTree) (before whole new : List PartTree) → new ≡ whole ++ p ∷ [] → Behind s at rest before whole → EntryRead s rest after (spell_entry p) → IsEntry p × (part_nesting p ≤ 32) → Behind s at after before new
+  one_behind rest after p before whole new pushed (ps, is, l) read ok =
+      (ps ++ p ∷ [], pushed ∙ ap (λ (qs : List PartTree). qs ++ p ∷ []) is ∙ append_assoc before ps (p ∷ []), one_entered rest after p ps (ps ++ p ∷ []) refl l read ok)
+
+  pub behind_refused : (rest : ℕ) (before whole : List PartTree) (e : Stop) → Behind s at rest before whole → EntriesRefused s rest e → EntriesRefused s at e
+  behind_refused rest before whole e (ps, is, l) refused = entered_refused rest ps e l refused
+
+  pub behind_unended : (rest : ℕ) (before whole : List PartTree) (e : Stop) → Behind s at rest before whole → IsEnd s rest → IsRefused s 0 (fixed semicolon ∷ []) (rest + 1) e → EntriesRefused s at e
+  behind_unended rest before whole e (ps, is, l) end refused = unended rest ps e l end refused
+
+  pub behind_ended : (rest next : ℕ) (before whole : List PartTree) → Behind s at rest before whole → IsEnd s rest → Has s (rest + 1) semicolon → next ≡ rest + 1 + 1 → EntriesRead s at next before whole
+  behind_ended rest next before whole (ps, is, l) end has last = record { others = ps; is = is; read = ended rest next ps l end has last; are = l.are; nests = l.nests }
+
+-- ---- the whole header
+
+greatest_of_three : {X : Type 0} (f : X → ℕ) (a b c : X) (xs : List X) → f a ≤ 32 → f b ≤ 32 → f c ≤ 32 → greatest f xs ≤ 32 → greatest f (a ∷ b ∷ c ∷ xs) ≤ 32
+greatest_of_three f a b c xs p q r rest = omega arith
+
+module _ (s : Source) (at : ℕ) where
+  abbrev tail_1 : List Item
+  tail_1 = named (codes "FILE_NAME") 6 [] ++ (schema_entry ++ (entries ∷ []))
+
+  abbrev tail_2 : List Item
+  tail_2 = schema_entry ++ (entries ∷ [])
+
+  pub head_1 : (e : Stop) → IsRefused s 0 (named (codes "FILE_DESCRIPTION") 1 []) at e → IsRefused s 0 head_items at e
+  head_1 e refused = first_refused s 0 at (named (codes "FILE_DESCRIPTION") 1 []) tail_1 e refused
+
+  pub head_2 : (mid : ℕ) (f : List Symbol → List Symbol) (e : Stop) → IsRead s 0 0 (named (codes "FILE_DESCRIPTION") 1 []) at mid f → IsRefused s 0 (named (codes "FILE_NAME") 6 []) mid e → IsRefused s 0 head_items at e
+  head_2 mid f e read refused = second_refused s 0 0 at mid (named (codes "FILE_DESCRIPTION") 1 []) tail_1 f e read (first_refused s 0 mid (named (codes "FILE_NAME") 6 []) tail_2 e refused)
+
+  pub head_3 : (mid after : ℕ) (f g : List Symbol → List Symbol) (e : Stop) → IsRead s 0 0 (named (codes "FILE_DESCRIPTION") 1 []) at mid f → IsRead s 0 0 (named (codes "FILE_NAME") 6 []) mid after g → IsRefused s 0 schema_entry after e → IsRefused s 0 head_items at e
+  head_3 mid after f g e read read_2 refused =
+      second_refused s 0 0 at mid (named (codes "FILE_DESCRIPTION") 1 []) tail_1 f e read
+      (second_refused s 0 0 mid after (named (codes "FILE_NAME") 6 []) tail_2 g e read_2 (first_refused s 0 after schema_entry (entries ∷ []) e refused))
+
+  pub head_4 : (mid after rest : ℕ) (f g h : List Symbol → List Symbol) (e : Stop) → IsRead s 0 0 (named (codes "FILE_DESCRIPTION") 1 []) at mid f → IsRead s 0 0 (named (codes "FILE_NAME") 6 []) mid after g → IsRead s 0 0 schema_entry after rest h
+      → EntriesRefused s rest e → IsRefused s 0 head_items at e
+  head_4 mid after rest f g h e read read_2 read_3 refused =
+      second_refused s 0 0 at mid (named (codes "FILE_DESCRIPTION") 1 []) tail_1 f e read
+      (second_refused s 0 0 mid after (named (codes "FILE_NAME") 6 []) tail_2 g e read_2 (second_refused s 0 0 after rest schema_entry (entries ∷ []) h e read_3 refused))
+
+  pub head_read : (mid after rest next : ℕ) (a b c : PartTree) (three whole : List PartTree) → three ≡ a ∷ b ∷ c ∷ [] → IsRead s 0 0 (named (codes "FILE_DESCRIPTION") 1 []) at mid (spell_entry a)
+      → IsRead s 0 0 (named (codes "FILE_NAME") 6 []) mid after (spell_entry b) → IsRead s 0 0 schema_entry after rest (spell_entry c) → EntriesRead s rest next three whole
+      → IsRead s 0 0 head_items at next (λ r. spell_all spell_entry whole (endsec ∷ semicolon ∷ r))
+  head_read mid after rest next a b c three whole is read read_2 read_3 l =
+      let f = λ (r : List Symbol). spell_all spell_entry l.others (endsec ∷ semicolon ∷ r) in
+      let made_3 = both s 0 0 0 after rest next schema_entry (entries ∷ []) (spell_entry c) f read_3 l.read in
+      let made_2 = both s 0 0 0 mid after next (named (codes "FILE_NAME") 6 []) tail_2 (spell_entry b) (λ r. spell_entry c (f r)) read_2 made_3 in
+      let made = both s 0 0 0 at mid next (named (codes "FILE_DESCRIPTION") 1 []) tail_1 (spell_entry a) (λ r. spell_entry b (spell_entry c (f r))) read made_2 in
+      respelled s 0 0 at next head_items (λ r. spell_entry a (spell_entry b (spell_entry c (f r)))) (λ r. spell_all spell_entry whole (endsec ∷ semicolon ∷ r))
+      (λ r. ap (λ (ps : List PartTree). spell_all spell_entry ps (endsec ∷ semicolon ∷ r)) (sym (l.is ∙ ap (λ (ps : List PartTree). ps ++ l.others) is))) made
+
+  pub head_is : (rest next : ℕ) (a b c : PartTree) (three whole : List PartTree) → three ≡ a ∷ b ∷ c ∷ [] → IsNamed (codes "FILE_DESCRIPTION") 2 a × (part_nesting a ≤ 32) → IsNamed (codes "FILE_NAME") 7 b × (part_nesting b ≤ 32)
+      → IsSchema c × (part_nesting c ≤ 32) → EntriesRead s rest next three whole → IsHead whole × (greatest part_nesting whole ≤ 32)
+  head_is rest next a b c three whole is ok_a ok_b ok_c l =
+      subst (λ (ps : List PartTree). IsHead ps × (greatest part_nesting ps ≤ 32)) (sym (l.is ∙ ap (λ (ps : List PartTree). ps ++ l.others) is))
+      ((ok_a.0, ok_b.0, ok_c.0, l.are), greatest_of_three part_nesting a b c l.others ok_a.1 ok_b.1 ok_c.1 l.nests)

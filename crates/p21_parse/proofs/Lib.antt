@@ -1,16 +1,5 @@
 pub mod ListLemmas
-pub mod Bind
-pub mod Found
-pub mod Only
-pub mod Symbols
-pub mod Loop
 pub mod ViewLemmas
-pub mod ParamSteps
-pub mod PartSteps
-pub mod Words
-pub mod LayoutLemmas
-pub mod NumberLemmas
-pub mod PlainLemmas
 pub mod Moves
 pub mod Marks
 pub mod Listing
@@ -31,3 +20,7 @@ pub mod Owned
 pub mod Fronts
 pub mod Single
 pub mod SingleList
+pub mod Filing
+pub mod Naming
+pub mod Telling
+pub mod OneMeaning

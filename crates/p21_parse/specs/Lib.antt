@@ -10,6 +10,6 @@ pub mod Begins
 pub mod Places
 pub mod Refused
 pub mod Allowed
-pub mod PlainFile
-pub mod Parse
 pub mod Source
+pub mod Names
+pub mod Text

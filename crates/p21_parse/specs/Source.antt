@@ -1,5 +1,5 @@
 -- A text's tokens from one of them on, and where a reader stops.
-use Rattle.std.specs.Prelude.{◌≡◌, ℕ, ◌+◌, ◌-◌, ◌<◌, ◌≤◌, Bool, true, false, Option, Some, None, List, [], ◌∷◌, ◌++◌, length, drop, codes}
+use Rattle.std.specs.Prelude.{◌≡◌, ℕ, ◌+◌, ◌-◌, ◌<◌, ◌≤◌, Bool, true, false, Option, Some, None, List, [], ◌∷◌, ◌++◌, ◌⊎◌, length, drop, codes}
 use Rattle.std.specs.List.{AllByRecursion}
 use Rattle.p21_lex.specs.declared.token.TokenKind.{TokenKind}
 use Rattle.p21_lex.specs.declared.token.TokenKind.TheVariants as kinds
@@ -8,11 +8,12 @@ use Rattle.p21_lex.specs.Reading.{IsToken}
 use Rattle.p21_parse.specs.declared.source.Source.{Source}
 use Rattle.p21_parse.specs.declared.source.Stop.{Stop}
 use Rattle.p21_parse.specs.declared.source.Stop.TheVariants.{Syntax, TooDeep, NoMemory}
-use Rattle.p21_parse.specs.Tree.{Tree, one, reference, Trees, none, first, InstanceTree}
+use Rattle.p21_parse.specs.Tree.{Tree, one, reference, Trees, none, first, PartTree, InstanceTree, ExchangeTree}
 use Rattle.p21_parse.specs.Symbol.{Symbol, value, name, keyword, opening, closing, semicolon, equals, symbol, symbol_of, symbols}
-use Rattle.p21_parse.specs.Spell.{spell_parts}
-use Rattle.p21_parse.specs.Grammar.{IsText, AreTexts}
-use Rattle.p21_parse.specs.Machine.{Item, fixed, schema, more_schemas, instances, entries, endsec, Outcome, stuck, deep, same, run}
+use Rattle.p21_parse.specs.Spell.{spell_parts, spell_all, spell_entry, spell_file}
+use Rattle.p21_parse.specs.Grammar.{IsText, AreTexts, IsEntry, IsExchange}
+use Rattle.p21_parse.specs.Nesting.{greatest, part_nesting, exchange_nesting}
+use Rattle.p21_parse.specs.Machine.{Item, fixed, schema, more_schemas, instances, entries, endsec, iso, header, data_word, end_iso, named, file_items, Outcome, done, stuck, deep, same, run}
 
 -- the tokens lie in the text
 abbrev pub IsSource : Source → Type 0
@@ -161,3 +162,49 @@ pub record EntryRead (s : Source) (at next : ℕ) (spelled : List Symbol → Lis
 
 abbrev pub EntriesRefused : Source → ℕ → Stop → Type 0
 EntriesRefused s at e = IsRefused s 0 (entries ∷ []) at e
+
+-- further entries stand from one token up to another, with the end of the header; with those read before they are the whole list
+pub record EntriesRead (s : Source) (at next : ℕ) (before whole : List PartTree) : Type 0 where
+  pub others : List PartTree
+  pub is : whole ≡ before ++ others
+  pub read : IsRead s 0 0 (entries ∷ []) at next (λ r. spell_all spell_entry others (endsec ∷ semicolon ∷ r))
+  pub are : AllByRecursion IsEntry others
+  pub nests : greatest part_nesting others ≤ 32
+
+-- the items of the header's entries and of its end
+abbrev pub head_items : List Item
+head_items = named (codes "FILE_DESCRIPTION") 1 [] ++ (named (codes "FILE_NAME") 6 [] ++ (schema_entry ++ (entries ∷ [])))
+
+-- ---- the file
+
+-- a word and a semicolon
+abbrev pub phrase : Symbol → List Item
+phrase w = fixed w ∷ fixed semicolon ∷ []
+
+-- the items up to the instances
+abbrev pub start_items : List Item
+start_items = phrase iso ++ (phrase header ++ (head_items ++ phrase data_word))
+
+-- the items behind the instances, with the word that ends them
+abbrev pub last_items : List Item
+last_items = phrase endsec ++ phrase end_iso
+
+-- The reader stopped where the machine did, or where tokens go on behind a whole file.
+abbrev pub FileStops : Source → Stop → Outcome → Type 0
+FileStops s (Syntax at) outcome = (at ≤ length s.tokens.now) × ((outcome ≡ stuck (length s.tokens.now - at)) ⊎ ((at < length s.tokens.now) × (outcome ≡ done 0 (from s at))))
+FileStops s (TooDeep at) outcome = Stops s (TooDeep at) outcome
+FileStops s NoMemory outcome = Unit {0}
+
+-- the file was read whole
+pub record FileRead (s : Source) (x : ExchangeTree) : Type 0 where
+  pub grammar : IsExchange x
+  pub shallow : exchange_nesting x ≤ 32
+  pub spells : from s 0 ≡ spell_file x
+  pub goes : run 32 0 file_items (from s 0) ≡ done 0 []
+
+-- what stands before the instances, and behind them
+abbrev pub spell_start : List PartTree → List Symbol → List Symbol
+spell_start head rest = iso ∷ semicolon ∷ header ∷ semicolon ∷ spell_all spell_entry head (endsec ∷ semicolon ∷ data_word ∷ semicolon ∷ rest)
+
+abbrev pub spell_last : List Symbol → List Symbol
+spell_last rest = endsec ∷ semicolon ∷ end_iso ∷ semicolon ∷ rest

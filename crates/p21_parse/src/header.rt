@@ -6,11 +6,11 @@ ghost use Rattle.std.specs.List.{AllByRecursion};
 ghost use Rattle.p21_parse.specs.Symbol.{keyword, semicolon, word, is_user};
 ghost use Rattle.p21_parse.specs.Tree.{count, list, none, first};
 ghost use Rattle.p21_parse.specs.Spell.{spell, spell_list, spell_entry, spell_all};
-ghost use Rattle.p21_parse.specs.Grammar.{AreParameters, IsText, IsNamed, IsSchema, IsEntry};
+ghost use Rattle.p21_parse.specs.Grammar.{AreParameters, IsText, IsNamed, IsSchema, IsEntry, IsHead};
 ghost use Rattle.p21_parse.specs.Nesting.{nestings, part_nesting, greatest};
 ghost use Rattle.p21_parse.specs.View.{tree_of, trees_of, part_of};
 ghost use Rattle.p21_parse.specs.Machine.{fixed, parameter, counted, named, schema, more_schemas, entries, endsec};
-ghost use Rattle.p21_parse.specs.Source.{IsSource, from, IsRead, IsRefused, AreNames, schema_entry, IsEnd, IsNoEnd, EntryRead, EntriesRefused};
+ghost use Rattle.p21_parse.specs.Source.{IsSource, from, IsRead, IsRefused, AreNames, schema_entry, head_items, EntriesRead, IsEnd, IsNoEnd, EntryRead, EntriesRefused};
 
 use crate::exchange::{Part, PartList};
 use crate::param::{Param, ParamList};
@@ -170,15 +170,14 @@ impl Source<'_> {
         Ok((Part { keyword, parameters }, next))
     }
 
-    /// Further entries, and the end of the header.
-    pub fn entries(&self, alloc: Global, at: usize) -> Result<(PartList, usize), Stop>
+    /// Further entries, which are put behind those read before, and the end of the header.
+    fn entries(&self, alloc: Global, at: usize, before: PartList) -> Result<(PartList, usize), Stop>
         requires source { IsSource self.now }
         requires at { at ≤ length self.now.tokens.now }
-        ensures read { IfOk result (λ x. IsRead self.now 0 0 (entries ∷ []) at x.1 (λ r. spell_all spell_entry (map part_of x.0) (endsec ∷ semicolon ∷ r))) }
-        ensures are { IfOk result (λ x. AllByRecursion IsEntry (map part_of x.0) × (greatest part_nesting (map part_of x.0) ≤ 32)) }
-        ensures refused { IfErr result (IsRefused self.now 0 (entries ∷ []) at) }
+        ensures read { IfOk result (λ x. EntriesRead self.now at x.1 (map part_of before) (map part_of x.0)) }
+        ensures refused { IfErr result (EntriesRefused self.now at) }
     {
-        let mut entries = PartList::new(alloc);
+        let mut entries = before;
         let mut rest = at;
         while !self.is_end(rest) {
             let (entry, after) = self.entry(alloc, rest)?;
@@ -186,6 +185,25 @@ impl Source<'_> {
             rest = after;
         }
         let next = self.mark(rest + 1, TokenKind::Semicolon)?;
+        Ok((entries, next))
+    }
+
+    /// The entries of the header, and its end.
+    pub fn head(&self, alloc: Global, at: usize) -> Result<(PartList, usize), Stop>
+        requires source { IsSource self.now }
+        requires at { at ≤ length self.now.tokens.now }
+        ensures read { IfOk result (λ x. IsRead self.now 0 0 head_items at x.1 (λ r. spell_all spell_entry (map part_of x.0) (endsec ∷ semicolon ∷ r))) }
+        ensures is { IfOk result (λ x. IsHead (map part_of x.0) × (greatest part_nesting (map part_of x.0) ≤ 32)) }
+        ensures refused { IfErr result (IsRefused self.now 0 head_items at) }
+    {
+        let (description, behind) = self.named(alloc, at, b"FILE_DESCRIPTION", 1)?;
+        let (name, after) = self.named(alloc, behind, b"FILE_NAME", 6)?;
+        let (schema, rest) = self.schema(alloc, after)?;
+        let mut head = PartList::new(alloc);
+        head.push(description)?;
+        head.push(name)?;
+        head.push(schema)?;
+        let (entries, next) = self.entries(alloc, rest, head)?;
         Ok((entries, next))
     }
 }

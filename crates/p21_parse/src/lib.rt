@@ -1,15 +1,14 @@
-//! Exchanges of ISO 10303-21 clear text: their trees, and the plain file.
+//! Exchanges of ISO 10303-21 clear text: the grammar, its trees, and reading.
 #![tactic(auto)]
 
-mod distinct;
 mod error;
 mod exchange;
+mod file;
 mod header;
 mod laws;
-mod layout;
+mod names;
 mod param;
 mod parameters;
-mod parse;
 mod parts;
 mod reading;
 mod source;
@@ -18,7 +17,5 @@ pub use error::ReadErr;
 pub use exchange::{Exchange, Instance, InstanceList, Part, PartList};
 pub use laws::{grammar_laws, instance_laws};
 pub use param::{Param, ParamList};
-pub use reading::{one_exchange, read};
+pub use reading::{read, text_laws};
 
-#[cfg(test)]
-mod tests;

@@ -15,6 +15,7 @@ use p21_lex::{Token, TokenKind, name_number};
 use std::alloc::{AllocError, AllocFailed, Global};
 
 /// A text and its tokens.
+#[derive(Clone, Copy)]
 pub struct Source<'a> {
     pub bytes: &'a [u8],
     pub tokens: &'a [Token],
