@@ -26,3 +26,4 @@ pub mod Owned
 pub mod Fronts
 pub mod Single
 pub mod SingleList
+pub mod Decided
