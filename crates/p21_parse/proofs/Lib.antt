@@ -27,3 +27,4 @@ pub mod Fronts
 pub mod Single
 pub mod SingleList
 pub mod Decided
+pub mod Nested
