@@ -28,3 +28,4 @@ pub mod Single
 pub mod SingleList
 pub mod Decided
 pub mod Nested
+pub mod DecidedList

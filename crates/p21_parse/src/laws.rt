@@ -28,8 +28,8 @@ pub fn grammar_laws()
         → ((x : ExchangeTree) × IsAllowed x × (symbols bytes tokens ≡ spell_file x)) ⊎ ((r : Refusal) × RefusedAt bytes tokens r) }
 {}
 
-/// The same of instances alone: those up to a token that is no name are given by their symbols, and what refuses them is
-/// one refusal at most, and none where they keep the limits. It does nothing.
+/// The same of instances alone, from a token on: up to one that is no name they are given by their symbols, and they
+/// either keep the limits or have a refusal, never both and never two. It does nothing.
 pub fn instance_laws()
     ensures one { (xs ys : List InstanceTree) (rest more : List Symbol) → IsNoName rest → IsNoName more
         → spell_all spell_instance xs rest ≡ spell_all spell_instance ys more → (xs ≡ ys) × (rest ≡ more) }
@@ -38,4 +38,8 @@ pub fn instance_laws()
     ensures allowed { (bytes : List ℕ) (tokens : List Token) (at most : ℕ) (items : List InstanceTree) (rest : List Symbol) (r : Refusal)
         → AllByRecursion (IsToken bytes) (drop at tokens) → AreAllowed most items
         → symbols bytes (drop at tokens) ≡ spell_all spell_instance items rest → IsNoName rest → RefusedFrom bytes tokens at most r → ⊥ }
+    ensures decided { (bytes : List ℕ) (tokens : List Token) (at most : ℕ) → AllByRecursion (IsToken bytes) (drop at tokens)
+        → ((items : List InstanceTree) × (rest : List Symbol) × AreAllowed most items
+        × (symbols bytes (drop at tokens) ≡ spell_all spell_instance items rest) × IsNoName rest)
+        ⊎ ((r : Refusal) × RefusedFrom bytes tokens at most r) }
 {}
