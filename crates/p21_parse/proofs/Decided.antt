@@ -15,7 +15,8 @@ use Rattle.p21_parse.specs.Places.{Refusal, syntax, too_deep, too_many, duplicat
 use Rattle.p21_parse.specs.Refused.{file_numbers, RefusedAt}
 use Rattle.p21_parse.specs.Allowed.{own_number_of, IsAllowed}
 use Rattle.p21_parse.proofs.Leaves.{left_of, above}
-use Rattle.p21_parse.proofs.Sound.{not_above, file_read}
+use Rattle.p21_parse.proofs.Sound.{not_above}
+use Rattle.p21_parse.proofs.SoundFile.{file_read}
 use Rattle.p21_parse.proofs.Named.{left_within}
 use Rattle.p21_parse.proofs.Owned.{behind_semicolon, numbers_last, file_to_numbers}
 use Rattle.p21_parse.proofs.Refusals.{IsNumbered, file_syntax, file_goes_on, file_too_deep, file_too_many, file_duplicate}

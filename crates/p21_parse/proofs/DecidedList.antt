@@ -13,7 +13,8 @@ use Rattle.p21_parse.specs.Places.{Refusal, syntax, too_deep, too_many, place_of
 use Rattle.p21_parse.specs.Refused.{RefusedFrom}
 use Rattle.p21_parse.specs.Allowed.{AreAllowed, IsNoName}
 use Rattle.p21_parse.proofs.Complete.{run-instance}
-use Rattle.p21_parse.proofs.Sound.{behind_first, not_above}
+use Rattle.p21_parse.proofs.Sound.{not_above}
+use Rattle.p21_parse.proofs.SoundInstances.{behind_first}
 use Rattle.p21_parse.proofs.Leaves.{above}
 use Rattle.p21_parse.proofs.Inside.{behind_items}
 use Rattle.p21_parse.proofs.Refusals.{list_syntax, list_too_deep, list_too_many}

@@ -13,6 +13,8 @@ pub mod NumberLemmas
 pub mod PlainLemmas
 pub mod Complete
 pub mod Sound
+pub mod SoundInstances
+pub mod SoundFile
 pub mod Trace
 pub mod Finish
 pub mod Leaves

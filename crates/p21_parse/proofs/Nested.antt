@@ -9,7 +9,7 @@ use Rattle.p21_parse.specs.Machine.{endsec, end_iso, Outcome, done, stuck, deep,
 use Rattle.p21_parse.specs.Refused.{file_numbers}
 use Rattle.p21_parse.specs.Allowed.{own_number_of}
 use Rattle.p21_parse.proofs.Complete.{file_runs}
-use Rattle.p21_parse.proofs.Sound.{file_read}
+use Rattle.p21_parse.proofs.SoundFile.{file_read}
 use Rattle.p21_parse.proofs.Unique.{same_file}
 use Rattle.p21_parse.proofs.Languages.{file_stopped, file_late, file_deepened, file_shallow}
 use Rattle.p21_parse.proofs.Named.{shallow_front}
