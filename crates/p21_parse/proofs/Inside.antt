@@ -9,7 +9,7 @@ use Rattle.p21_parse.specs.Nesting.{greatest, part_nesting}
 use Rattle.p21_parse.specs.Begins.{IsSymbol, Begins, StopsAt, DeepAt}
 use Rattle.p21_parse.specs.Machine.{Item, fixed, behind_name, done, stuck, deep, run}
 use Rattle.p21_parse.proofs.Complete.{step, run-body}
-use Rattle.p21_parse.proofs.Sound.{behind_first}
+use Rattle.p21_parse.proofs.SoundInstances.{behind_first}
 use Rattle.p21_parse.proofs.Trace.{Calm, fixed_semicolon}
 use Rattle.p21_parse.proofs.Leaves.{Shallow, Stopped, stopped, deepened}
 use Rattle.p21_parse.proofs.Languages.{but_last, last_of}

@@ -10,7 +10,7 @@ use Rattle.p21_parse.specs.Nesting.{exchange_nesting, greatest, instance_nesting
 use Rattle.p21_parse.specs.Begins.{IsSymbol, Begins, StopsAt, DeepAt}
 use Rattle.p21_parse.specs.Machine.{Item, fixed, instances, done, stuck, deep, run, counted, named, iso, end_iso, header, data_word, endsec, end_items, data_items, schema_items, file_items}
 use Rattle.p21_parse.proofs.Complete.{file_runs, instances_run, itself}
-use Rattle.p21_parse.proofs.Sound.{file_read, instances_read}
+use Rattle.p21_parse.proofs.SoundFile.{file_read, instances_read}
 use Rattle.p21_parse.proofs.Trace.{Quiet, Calm, fixed_opening, fixed_closing, fixed_semicolon}
 use Rattle.p21_parse.proofs.Finish.{word_each, real_append, endsec_real}
 use Rattle.p21_parse.proofs.Appends.{longer_instances}

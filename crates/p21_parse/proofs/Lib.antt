@@ -7,6 +7,8 @@ pub mod Parting
 pub mod Heading
 pub mod Complete
 pub mod Sound
+pub mod SoundInstances
+pub mod SoundFile
 pub mod Trace
 pub mod Finish
 pub mod Leaves
@@ -24,3 +26,6 @@ pub mod Filing
 pub mod Naming
 pub mod Telling
 pub mod OneMeaning
+pub mod Decided
+pub mod Nested
+pub mod DecidedList

@@ -73,3 +73,11 @@ nothing_first (x ∷ xs) ys e = absurd cc
 -- A front of what has no numbers has none.
 pub no_numbers : (b : Bool) (ss more : List Symbol) → numbers_in b (ss ++ more) ≡ [] → numbers_in b ss ≡ []
 no_numbers b ss more e = nothing_first (numbers_in b ss) (numbers_in (behind_semicolon b ss) more) (sym (numbers_append b ss more) ∙ e)
+
+-- One symbol more: it adds its number where it is a name behind a semicolon.
+pub numbers_last : (b : Bool) (ss : List Symbol) (s : Symbol) → numbers_in b (ss ++ s ∷ []) ≡ numbers_in b ss ++ own_number (behind_semicolon b ss) s []
+numbers_last b ss s = numbers_append b ss (s ∷ [])
+
+pub behind_last : (b : Bool) (ss : List Symbol) (s : Symbol) → behind_semicolon b (ss ++ s ∷ []) ≡ is_semicolon s
+behind_last b [] s = refl
+behind_last b (t ∷ ss) s = behind_last (is_semicolon t) ss s
