@@ -2,5 +2,14 @@ pub mod Tree
 pub mod View
 pub mod Symbol
 pub mod Spell
-pub mod PlainFile
-pub mod Parse
+pub mod Grammar
+pub mod Nesting
+pub mod Numbers
+pub mod Machine
+pub mod Begins
+pub mod Places
+pub mod Refused
+pub mod Allowed
+pub mod Source
+pub mod Names
+pub mod Text

@@ -1,8 +1,6 @@
 -- What the program's values are in the grammar: their trees.
-use Rattle.std.specs.Prelude.{◌≡◌, Result, Ok, Err, [], map}
+use Rattle.std.specs.Prelude.{[], map}
 use Rattle.p21_lex.specs.declared.token.TokenKind.TheVariants as kinds
-use Rattle.p21_parse.specs.declared.error.ReadErr.{ReadErr}
-use Rattle.p21_parse.specs.declared.error.ReadErr.TheVariants.{NotBuilt, NoMemory}
 use Rattle.p21_parse.specs.declared.param.Param.{Param, Int, Real, Text, Enumeration, Reference, Binary, Unset, Derived, List', Typed', Row_of-Param, end_of-Param, more_of-Param}
 use Rattle.p21_parse.specs.declared.param.ParamList.{ParamList}
 use Rattle.p21_parse.specs.declared.exchange.Part.{Part}
@@ -44,9 +42,3 @@ instance_of instance = record { number = instance.number; complex = instance.com
 -- the tree of an exchange
 abbrev pub exchange_of : Exchange → ExchangeTree
 exchange_of exchange = record { head = map part_of exchange.head; items = map instance_of exchange.items }
-
--- A call that reads answered this exchange, unless memory ran out.
-abbrev pub Answers : Result Exchange ReadErr → ExchangeTree → Type 0
-Answers (Ok exchange) x = exchange_of exchange ≡ x
-Answers (Err NotBuilt) x = ⊥
-Answers (Err NoMemory) x = Unit {0}

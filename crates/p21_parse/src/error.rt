@@ -4,14 +4,28 @@ ghost use Rattle.std.specs.Prelude.{◌≡◌};
 ghost use Rattle.p21_parse.specs.declared.error.ReadErr.TheVariants.{NoMemory};
 
 use std::alloc::{AllocError, AllocFailed};
+use nc_base::Number;
+use p21_lex::LexErr;
 use thiserror::Error;
 
 /// Why a text has no exchange.
 #[derive(Clone, Copy, Debug, PartialEq, Eq, Error)]
 pub enum ReadErr {
-    /// The text is no plain file.
-    #[error("the text is no plain file")]
-    NotBuilt,
+    /// A fault of the text's tokens.
+    #[error("{0}")]
+    Lex(LexErr),
+    /// Nothing of the grammar goes on at this place, a byte offset: the token there, or the end.
+    #[error("no exchange goes on so at byte {0}")]
+    Syntax(u32),
+    /// The parenthesis at this place, a byte offset, is the 33rd that is open.
+    #[error("more than 32 parentheses are open at byte {0}")]
+    TooDeep(u32),
+    /// The name at this place, a byte offset, is that of instance 200,001.
+    #[error("more than 200,000 instances at byte {0}")]
+    TooMany(u32),
+    /// The number of an instance stands a second time.
+    #[error("#{0} stands twice")]
+    Duplicate(Number),
     /// Memory ran out.
     #[error("out of memory")]
     NoMemory,
@@ -38,5 +52,18 @@ impl From<nc_base::NoMemory> for ReadErr {
 
     fn from(_e: nc_base::NoMemory) -> ReadErr {
         ReadErr::NoMemory
+    }
+}
+
+impl From<LexErr> for ReadErr {
+    ghost use Rattle.p21_parse.specs.Text.{from_lex};
+
+    ghost from_gives = { λ l e. e ≡ from_lex l };
+
+    fn from(e: LexErr) -> ReadErr {
+        match e {
+            LexErr::NoMemory => ReadErr::NoMemory,
+            fault => ReadErr::Lex(fault),
+        }
     }
 }

@@ -1,18 +1,21 @@
-//! Exchanges of ISO 10303-21 clear text: their trees, and the plain file.
+//! Exchanges of ISO 10303-21 clear text: the grammar, its trees, and reading.
 #![tactic(auto)]
 
-mod distinct;
 mod error;
 mod exchange;
-mod layout;
+mod file;
+mod header;
+mod laws;
+mod names;
 mod param;
-mod parse;
+mod parameters;
+mod parts;
 mod reading;
+mod source;
 
 pub use error::ReadErr;
 pub use exchange::{Exchange, Instance, InstanceList, Part, PartList};
+pub use laws::{grammar_laws, instance_laws};
 pub use param::{Param, ParamList};
-pub use reading::{one_exchange, read};
+pub use reading::{read, text_laws};
 
-#[cfg(test)]
-mod tests;

@@ -1,86 +1,112 @@
 //! Reading a text.
 
-ghost use Rattle.std.specs.Prelude.{ℕ, List, true, Some, ◌≡◌, ◌≤◌, length, IfOk, IfErr, All};
+ghost use Rattle.std.specs.Prelude.{◌≡◌, ◌≤◌, ◌-◌, length, drop, IfOk, IfErr, ℕ, List, ◌⊎◌};
 ghost use Rattle.std.specs.List.{AllByRecursion};
-ghost use Rattle.p21_lex.specs.declared.token.Token.{Token};
 ghost use Rattle.p21_lex.specs.Reading.{Reads, IsToken};
+ghost use Rattle.p21_parse.specs.declared.error.ReadErr.{ReadErr};
+ghost use Rattle.p21_parse.specs.declared.error.ReadErr.TheVariants as errors;
 ghost use Rattle.p21_parse.specs.Tree.{ExchangeTree};
-ghost use Rattle.p21_parse.specs.Symbol.{symbols};
-ghost use Rattle.p21_parse.specs.Spell.{spell_file};
-ghost use Rattle.p21_parse.specs.Parse.{Gives};
-ghost use Rattle.p21_parse.specs.View.{exchange_of, Answers};
-ghost use Rattle.p21_parse.specs.PlainFile.{is_tight, IsPlainExchange, IsPlainFile};
+ghost use Rattle.p21_parse.specs.View.{exchange_of};
+ghost use Rattle.p21_parse.specs.Places.{start_of};
+ghost use Rattle.p21_parse.specs.Source.{IsSource};
+ghost use Rattle.p21_parse.specs.Names.{before, AreFine};
+ghost use Rattle.p21_parse.specs.Text.{IsText, IsRefusedText, IsExchangeOf, IsRefusedSource, NamesRefuse};
 
-use crate::distinct::have_distinct_numbers;
 use crate::error::ReadErr;
 use crate::exchange::Exchange;
-use crate::layout::is_tight;
-use crate::parse::file;
-use p21_lex::{LexErr, Token, reading_laws, tokens};
+use crate::laws::grammar_laws;
+use crate::names::NameFault;
+use crate::source::{Source, Stop};
+use p21_lex::{Token, reading_laws, tokens};
 use std::alloc::Global;
-
-/// The lines that a plain file begins with.
-const PLAIN_HEAD: &[u8] =
-    b"ISO-10303-21;\nHEADER;\nFILE_DESCRIPTION((''),'2;1');\nFILE_NAME('A','',(''),(''),'','','');\nFILE_SCHEMA(('MACHINING_SCHEMA'));\nENDSEC;\nDATA;\n";
-
-/// How many instances a file has at most.
-const MOST_INSTANCES: u32 = 200_000;
 
 /// The tokens of a text.
 fn tokens_of(alloc: Global, bytes: &[u8]) -> Result<Vec<Token>, ReadErr>
     requires { length bytes.now ≤ 268435456 }
     ensures found { IfOk result (λ v. Reads 0 v.items bytes.now) }
-    ensures only { (ts : List Token) → Reads 0 ts bytes.now → Gives (λ v. v.items) result (Some ts) }
-    ensures inside { IfOk result (λ v. All (IsToken bytes.now) v.items) }
+    ensures inside { IfOk result (λ v. AllByRecursion (IsToken bytes.now) v.items) }
+    ensures refused { IfErr result (IsRefusedText bytes.now) }
 {
-    match tokens(alloc, bytes) {
-        Ok(tokens) => Ok(tokens),
-        Err(LexErr::NoMemory) => Err(ReadErr::NoMemory),
-        Err(_) => Err(ReadErr::NotBuilt),
+    let found = tokens(alloc, bytes)?;
+    Ok(found)
+}
+
+impl Source<'_> {
+    /// Where the token at an index begins: a byte offset, at the end the text's length.
+    fn place(&self, at: usize) -> u32
+        requires { length self.now.bytes.now ≤ 268435456 }
+        ensures { result ≡ start_of self.now.bytes.now (drop at self.now.tokens.now) }
+    {
+        match self.tokens.get(at) {
+            Some(token) => token.start,
+            None => self.bytes.len() as u32,
+        }
+    }
+
+    /// Looks at the names of instances among so many tokens.
+    fn check_names(&self, alloc: Global, end: usize) -> Result<(), ReadErr>
+        requires source { IsSource self.now }
+        requires short { length self.now.bytes.now ≤ 268435456 }
+        requires end { end ≤ length self.now.tokens.now }
+        ensures fine { IfOk result (λ _. AreFine (before self.now end)) }
+        ensures refused { IfErr result (NamesRefuse self.now end) }
+    {
+        match self.name_fault(alloc, end)? {
+            None => Ok(()),
+            Some(NameFault::TooMany(at)) => Err(ReadErr::TooMany(self.place(at))),
+            Some(NameFault::Duplicate(number)) => Err(ReadErr::Duplicate(number)),
+        }
+    }
+
+    /// The exchange that the tokens spell.
+    fn exchange(&self, alloc: Global) -> Result<Exchange, ReadErr>
+        requires source { IsSource self.now }
+        requires short { length self.now.bytes.now ≤ 268435456 }
+        ensures read { IfOk result (λ x. IsExchangeOf self.now (exchange_of x)) }
+        ensures refused { IfErr result (IsRefusedSource self.now) }
+    {
+        match self.file(alloc) {
+            Ok(exchange) => {
+                self.check_names(alloc, self.tokens.len())?;
+                Ok(exchange)
+            }
+            Err(Stop::Syntax(at)) => {
+                self.check_names(alloc, at)?;
+                Err(ReadErr::Syntax(self.place(at)))
+            }
+            Err(Stop::TooDeep(at)) => {
+                self.check_names(alloc, at)?;
+                Err(ReadErr::TooDeep(self.place(at)))
+            }
+            Err(Stop::NoMemory) => Err(ReadErr::NoMemory),
+        }
     }
 }
 
-/// The exchange that tokens spell in the lines of a plain file.
-fn exchange(alloc: Global, bytes: &[u8], tokens: &[Token]) -> Result<Exchange, ReadErr>
-    requires { AllByRecursion (IsToken bytes.now) tokens.now }
-    ensures tight { IfOk result (λ _. is_tight bytes.now 0 tokens.now ≡ true) }
-    ensures spelled { IfOk result (λ x. symbols bytes.now tokens.now ≡ spell_file (exchange_of x)) }
-    ensures plain { IfOk result (λ x. IsPlainExchange (exchange_of x)) }
-    ensures only { (x : ExchangeTree) → is_tight bytes.now 0 tokens.now ≡ true
-        → symbols bytes.now tokens.now ≡ spell_file x → IsPlainExchange x → Answers result x }
-{
-    if !is_tight(bytes, tokens) {
-        return Err(ReadErr::NotBuilt);
-    }
-    let exchange = file(alloc, bytes, tokens)?;
-    if exchange.items.len() > MOST_INSTANCES {
-        return Err(ReadErr::NotBuilt);
-    }
-    if !have_distinct_numbers(alloc, exchange.items.as_slice())? {
-        return Err(ReadErr::NotBuilt);
-    }
-    Ok(exchange)
-}
-
-/// The exchange of a plain file (a form of ISO 10303-21 clear text that this profile's first stage reads). NotBuilt comes
-/// exactly where the text is none.
+/// The exchange that a text of at most 268,435,456 bytes holds (ISO 10303-21, clear text encoding, in this profile).
+///
+/// # Errors
+/// The first fault of the text's tokens. Where there is none, of the other refusals that which stands at the earliest token; where too
+/// many instances and a number that comes twice stand at one, there are too many. Or want of memory.
 pub fn read(alloc: Global, bytes: &[u8]) -> Result<Exchange, ReadErr>
     requires { length bytes.now ≤ 268435456 }
-    // What is read is spelled so.
-    ensures found { IfOk result (λ x. IsPlainFile bytes.now (exchange_of x)) }
-    // What is spelled so is read, unless memory runs out.
-    ensures only { (x : ExchangeTree) → IsPlainFile bytes.now x → Answers result x }
+    ensures found { IfOk result (λ x. IsText bytes.now (exchange_of x)) }
+    ensures refused { IfErr result (IsRefusedText bytes.now) }
 {
-    if !bytes.starts_with(PLAIN_HEAD) {
-        return Err(ReadErr::NotBuilt);
-    }
     let tokens = tokens_of(alloc, bytes)?;
-    exchange(alloc, bytes, tokens.as_slice())
+    let source = Source {
+        bytes,
+        tokens: tokens.as_slice(),
+    };
+    source.exchange(alloc)
 }
 
-/// A text is a plain file of at most one exchange. It does nothing.
-pub fn one_exchange()
-    ensures { (bytes : List ℕ) (x y : ExchangeTree) → IsPlainFile bytes x → IsPlainFile bytes y → x ≡ y }
+/// A text holds one exchange at most, or it is refused for one reason, but never both. It does nothing.
+pub fn text_laws()
+    ensures one { (bytes : List ℕ) (x y : ExchangeTree) → IsText bytes x → IsText bytes y → x ≡ y }
+    ensures apart { (bytes : List ℕ) (x : ExchangeTree) (e : ReadErr) → IsText bytes x → IsRefusedText bytes e → e ≡ errors.NoMemory }
+    ensures single { (bytes : List ℕ) (e f : ReadErr) → IsRefusedText bytes e → IsRefusedText bytes f → (e ≡ f) ⊎ ((e ≡ errors.NoMemory) ⊎ (f ≡ errors.NoMemory)) }
 {
     reading_laws();
+    grammar_laws();
 }

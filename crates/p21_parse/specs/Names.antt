@@ -1,0 +1,40 @@
+-- The names of instances in the front of a text, and their first fault.
+use Rattle.std.specs.Prelude.{◌≡◌, ℕ, ◌+◌, nat_eq, ◌≤◌, ◌<◌, List, [], ◌∷◌, ◌++◌, length, take, Option, Some, None}
+use Rattle.std.specs.List.{IsDistinct}
+use Rattle.p21_parse.specs.declared.source.Source.{Source}
+use Rattle.p21_parse.specs.declared.names.NameFault.{NameFault}
+use Rattle.p21_parse.specs.declared.names.NameFault.TheVariants.{TooMany, Duplicate}
+use Rattle.p21_parse.specs.Symbol.{Symbol, name}
+use Rattle.p21_parse.specs.Refused.{file_numbers}
+use Rattle.p21_parse.specs.Source.{from, Has}
+
+-- the symbols before a token
+abbrev pub before : Source → ℕ → List Symbol
+before s at = take at (from s 0)
+
+-- the own name of an instance stands there
+pub record IsOwn (s : Source) (at : ℕ) (number : ℕ) : Type 0 where
+  pub has : Has s at (name number)
+  pub owns : file_numbers (before s (at + 1)) ≡ file_numbers (before s at) ++ number ∷ []
+
+-- no instance has its own name there
+abbrev pub HasNoOwn : Source → ℕ → Type 0
+HasNoOwn s at = file_numbers (before s (at + 1)) ≡ file_numbers (before s at)
+
+-- The instances are few, and no number comes twice.
+pub record AreFine (front : List Symbol) : Type 0 where
+  pub few : length (file_numbers front) ≤ 200000
+  pub distinct : IsDistinct nat_eq (file_numbers front)
+
+-- at the token the names have their first fault
+pub record FaultAt (s : Source) (end at number : ℕ) (Fault : List ℕ → Type 0) : Type 0 where
+  pub early : at < end
+  pub has : Has s at (name number)
+  pub fine : AreFine (before s at)
+  pub fault : Fault (file_numbers (before s (at + 1)))
+
+-- what the first fault is of the names among so many tokens
+abbrev pub NamesAre : Source → ℕ → Option NameFault → Type 0
+NamesAre s end None = AreFine (before s end)
+NamesAre s end (Some (TooMany at)) = (number : ℕ) × FaultAt s end at number (λ ns. 200000 < length ns)
+NamesAre s end (Some (Duplicate number)) = (at : ℕ) × FaultAt s end at number (λ ns. (length ns ≤ 200000) × (IsDistinct nat_eq ns → ⊥))

@@ -1,0 +1,61 @@
+//! The names of a file's instances: which is one too many, and which stands a second time.
+
+ghost use Rattle.std.specs.Prelude.{◌≡◌, ◌<◌, ◌≤◌, ◌∷◌, [], length, IfOk, IfSome, IfNone};
+ghost use Rattle.p21_parse.specs.Source.{IsSource};
+ghost use Rattle.p21_parse.specs.Names.{IsOwn, HasNoOwn, NamesAre};
+
+use crate::source::Source;
+use indexmap::IndexSet;
+use nc_base::{NoMemory, Number};
+use p21_lex::TokenKind;
+use std::alloc::Global;
+
+/// How many instances a file has at most.
+const MOST_INSTANCES: usize = 200_000;
+
+/// What is wrong with the names of instances.
+#[derive(Clone, Copy, Debug, PartialEq, Eq)]
+pub enum NameFault {
+    /// The name at this index is one too many.
+    TooMany(usize),
+    /// The number of an instance stands a second time.
+    Duplicate(Number),
+}
+
+impl Source<'_> {
+    /// The number of the instance whose own name stands at an index, if one does: a name behind a semicolon.
+    fn own_name(&self, at: usize) -> Option<Number>
+        requires { IsSource self.now }
+        ensures found { IfSome result (IsOwn self.now at) }
+        ensures none { IfNone result (HasNoOwn self.now at) }
+    {
+        if at == 0 {
+            return None;
+        }
+        if !self.is_mark(at - 1, TokenKind::Semicolon) {
+            return None;
+        }
+        self.name(at)
+    }
+
+    /// The first fault of the names of instances among so many tokens.
+    pub fn name_fault(&self, alloc: Global, end: usize) -> Result<Option<NameFault>, NoMemory>
+        requires source { IsSource self.now }
+        requires end { end ≤ length self.now.tokens.now }
+        ensures { IfOk result (NamesAre self.now end) }
+    {
+        let mut seen: IndexSet<Number> = IndexSet::new(alloc);
+        for at in 0..end {
+            let Some(number) = self.own_name(at) else {
+                continue;
+            };
+            if seen.len() >= MOST_INSTANCES {
+                return Ok(Some(NameFault::TooMany(at)));
+            }
+            if !seen.insert(number)? {
+                return Ok(Some(NameFault::Duplicate(number)));
+            }
+        }
+        Ok(None)
+    }
+}
