@@ -41,7 +41,6 @@ FORMS = [
     ("Real", re.compile(rb"[+-]?[0-9]+\.[0-9]*(?:E[+-]?[0-9]+)?")),
     ("Int", re.compile(rb"[+-]?[0-9]+")),
     ("Enumeration", re.compile(rb"\.[A-Z_][A-Z0-9_]*\.")),
-    ("mark", re.compile(rb"[(),;=$*]")),
 ]
 # By the first byte, the kinds that may begin there, the longer form first.
 BEGINS = {}
@@ -54,8 +53,10 @@ for byte in range(256):
         "Real": first in b"+-0123456789",
         "Int": first in b"+-0123456789",
         "Enumeration": first == b".",
-        "mark": first in b"(),;=$*",
     }[kind]]
+
+MARKS = {byte: bytes([byte]) for byte in b"(),;=$*"}
+BLANKS = b" \t\r\n"
 
 NOT_IN_TEXT = rb"\x00-\x08\x0b\x0c\x0e-\x1f"
 TEXT_STOP = re.compile(rb"['" + NOT_IN_TEXT + rb"]")
@@ -104,6 +105,8 @@ def name_number(text, place):
 
 def one_token(data, at):
     """The token that begins at a place, and the place behind it."""
+    if data[at] in MARKS:
+        return ("mark", MARKS[data[at]], at), at + 1
     if data[at] == 39:
         end = text_end(data, at)
         return ("Text", data[at + 1:end - 1], at), end
@@ -126,9 +129,8 @@ def one_token(data, at):
 def tokens_of(data):
     tokens, at = [], 0
     while at < len(data):
-        gap = GAP.match(data, at)
-        if gap:
-            at = gap.end()
+        if data[at] in BLANKS:
+            at = GAP.match(data, at).end()
         elif data.startswith(b"/*", at):
             at = comment_end(data, at)
         else:

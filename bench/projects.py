@@ -779,7 +779,7 @@ def chosen(r, weighted):
 
 def random_file(r):
     """The bytes of a random project file, and the numbers of the steps that it began with."""
-    if r.random() < 0.002:
+    if r.random() < 0.001:
         return many_instances(r), []
     project = random_project(r)
     for _ in range(r.choices([0, 1, 2, 3], [35, 35, 20, 10])[0]):
