@@ -150,6 +150,13 @@ NUMBERS = [
     ("1.E99999999999999999999", None), ("1.E-99999999999999999999", 0), ("-1.0005", -1001), ("2.0005", 2001),
 ]
 
+TOKENS = [
+    ("A-5", [("Word", b"A-5")]), ("!A-5", [("UserWord", b"!A"), ("Int", b"-5")]), ("1.E", [("Real", b"1."), ("Word", b"E")]),
+    ("1.E-", [("Real", b"1."), ("Word", b"E-")]), ("1E5", [("Int", b"1"), ("Word", b"E5")]), ("1..T.", [("Real", b"1."), ("Enumeration", b".T.")]),
+    ("'a''b'", [("Text", b"a''b")]), ("#0010#7", [("Name", 10), ("Name", 7)]), ('"0F"/**/""', [("Binary", b"0F"), ("Binary", b"")]),
+    ("1.5E-3A", [("Real", b"1.5E-3"), ("Word", b"A")]), ("/*/*/ -5", [("Int", b"-5")]), ("''''", [("Text", b"''")]), ("'' ''", [("Text", b"")] * 2),
+]
+
 ROW_OF_FACE = ["T 44 20000", "R 0 0 30000", "R 0 0 5000", "F 0 0 -2000 40", "F 100000 0 -2000 40", "F 100000 20000 -2000 40",
                "F 0 20000 -2000 40", "F 0 40000 -2000 40", "F 100000 40000 -2000 40", "F 100000 50000 -2000 40", "F 0 50000 -2000 40",
                "R 0 50000 5000", "R 0 50000 30000"]
@@ -201,6 +208,8 @@ def cases():
         yield repr(words), ask(words, ""), refusal(f"BadWords {place}", oracle.BAD_WORDS)
     for number, value in NUMBERS:
         yield number, oracle.thousandths(number.encode()), value
+    for text, tokens in TOKENS:
+        yield text, [token[:2] for token in oracle.tokens_of(text.encode())], tokens
     for name, instances, blocks in PATHS:
         yield f"path of {name} with {instances}", ask(PATH, changed(name, instances)), (0, "".join(b + "\n" for b in blocks).encode())
     yield "no project", ask(REPLAY, changed(HOLE, [], ["#1"])), refusal("NoProject")
