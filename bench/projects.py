@@ -128,6 +128,8 @@ class Project:
         self.shared = {}
         self.is_sparse = r.random() < 0.1
         self.steps = []
+        self.allowances = []  # operation, position of its bottom allowance, depth
+        self.sides = []  # operation, profile, least length that its tool needs: of centred pockets
 
     def fresh(self):
         while True:
@@ -234,14 +236,16 @@ class Project:
 
     def face(self, place, bottom, depth):
         r = self.r
-        diameter = self.value(1_000, 30_000)
+        diameter = r.choice([self.value(1_000, 30_000), self.value(1_000, 30_000), r.randint(1, 1_500)])
         width = r.choice([1, diameter, 2 * diameter, self.value(1, 12 * diameter)])
         x, y = r.choice([(1, 0), (-1, 0), (0, 1), (0, -1)])
         course = self.add("LINEAR_PATH", {2: self.length(self.value(1, 200_000)), 3: self.direction(x, y, 0)})
         profile = self.add("LINEAR_PROFILE", {2: self.length(width)})
         feature = self.add("PLANAR_FACE", {4: place, 5: bottom, 6: course, 7: profile})
         used = {12: self.strategy(), 13: self.depth_of_cut(depth), 14: self.allowance(depth - 1)}
-        return feature, self.operation(r.randint(45, 46), self.tool(diameter), used)
+        operation = self.operation(r.randint(45, 46), self.tool(diameter), used)
+        self.allowances.append((operation.number, 14, depth))
+        return feature, operation
 
     def contour(self, length, width):
         r = self.r
@@ -267,9 +271,14 @@ class Project:
             profile = self.contour(length, width)
         feature = self.add("CLOSED_POCKET", {4: place, 5: bottom, 11: profile})
         radial = r.choice(["$", self.length(self.value(max(1, diameter // 8), diameter)), self.length(100_000)])
+        least = diameter + diameter % 2 + 2 * side
         side = "$" if side == 0 and r.random() < 0.5 else self.length(side)
         used = {13: self.depth_of_cut(depth), 14: radial, 15: side, 16: self.allowance(depth - 1)}
-        return feature, self.operation(r.randint(47, 48), self.tool(diameter), used)
+        operation = self.operation(r.randint(47, 48), self.tool(diameter), used)
+        self.allowances.append((operation.number, 16, depth))
+        if self.instances[profile.number].code == 34:
+            self.sides.append((operation.number, profile.number, least))
+        return feature, operation
 
     def step(self):
         r = self.r
@@ -338,7 +347,7 @@ def random_project(r):
         for _ in range(r.randint(1, 8)):
             project.extra(r.randint(2, 60))
         project.opaque()
-    if r.random() < 0.05:
+    if r.random() < 0.08:
         for code in range(2, 61):
             project.extra(code)
     if r.random() < 0.5:
@@ -376,10 +385,17 @@ def pick(r, items):
     return r.choice(items) if items else None
 
 
+def of_any_class(project, wanted):
+    """A used position of what a step leads to, or of a further instance of any class."""
+    r = project.r
+    numbers = reached(project) if r.random() < 0.4 else [project.extra(r.randint(2, 60)).number]
+    return pick(r, places(project, numbers, wanted))
+
+
 def wrong_attribute(project):
     """BadAttribute"""
     r = project.r
-    found = pick(r, places(project, project.instances, lambda used: used.kind != "flag"))
+    found = of_any_class(project, lambda used: used.kind != "flag")
     if found:
         instance, used = found
         wrong = ["*", text(r), enumeration(r), binary(r), Typed("A", text(r)), Typed("A", Typed("B", "1.")), [text(r)], [[Ref(1)]], "1.E13"]
@@ -404,7 +420,7 @@ def two_projects(project):
 def lost_reference(project):
     """Unresolved"""
     r = project.r
-    found = pick(r, places(project, project.instances, lambda used: used.kind in ("ref", "len", "val", "list", "list1")))
+    found = of_any_class(project, lambda used: used.kind in ("ref", "len", "val", "list", "list1"))
     if found:
         instance, used = found
         lost = Ref(project.fresh())
@@ -415,12 +431,14 @@ def lost_reference(project):
 def wrong_target(project):
     """WrongKind"""
     r = project.r
-    found = pick(r, places(project, project.instances, lambda used: used.target))
-    others = found and project.numbers_of(set(range(1, 62)) - TARGETS[found[1].target])
-    if others:
+    found = of_any_class(project, lambda used: used.target)
+    if found:
         instance, used = found
+        codes = TARGETS[used.target]
+        others = project.numbers_of(set(range(1, 62)) - codes)
+        near = [code for code in (min(codes) - 1, max(codes) + 1) if code > 1]  # the classes beside the target
+        other = project.extra(r.choice(near)) if r.random() < 0.5 or not others else Ref(r.choice(others))
         now = instance.get(used.position)
-        other = Ref(r.choice(others))
         instance.put(used.position, now + [other] if isinstance(now, list) else other)
 
 
@@ -449,11 +467,14 @@ def missing(project):
         instance, used = found
         wrong = ["$", project.any_of(None)] if used.kind in ("ref", "len") else ["$"]
         instance.put(used.position, r.choice(wrong))
-    polylines = [number for number in reached(project) if project.instances[number].code == 36]
-    if polylines and r.random() < 0.2:
-        points = project.instances[r.choice(polylines)].get(2)
-        if isinstance(points, list):
-            points.append(project.any_of(None))
+
+
+def lost_corner(project):
+    """Missing, of a contour"""
+    line = of_steps(project, {36})
+    if line and isinstance(line.get(2), list):
+        points = line.get(2)
+        points.insert(project.r.randint(0, len(points)), project.any_of(None))
 
 
 def of_steps(project, codes):
@@ -491,7 +512,7 @@ def mismatched(project):
 def not_rectangle(project):
     """NotRectangle"""
     r = project.r
-    way = r.randrange(5)
+    way = r.randrange(9)
     pocket, contour, line = (of_steps(project, {code}) for code in (31, 35, 36))
     points = line and line.get(2)
     if way == 0 and pocket:
@@ -504,8 +525,16 @@ def not_rectangle(project):
             points[at] = project.point(*(project.value(-90_000, 90_000) for _ in range(3)))
         elif way == 3:
             del points[at]
-        else:
+        elif way == 4:
             points.insert(at, r.choice(points))
+        elif way == 5:
+            points[at] = r.choice(points)
+        elif way == 6:
+            points.append(r.choice(points))
+        elif way == 7:
+            points[2:] = [points[0], r.choice(points)]  # there and back
+        else:
+            r.shuffle(points)
 
 
 def with_number(project, value):
@@ -538,12 +567,41 @@ def not_positive(project):
 
 def out_of_range(project):
     """OutOfRange"""
-    with_number(project, project.r.choice([10**8 + 1, -10**8 - 1, 10**15, -10**15, -1]))
+    with_number(project, project.r.choice([10**8, -10**8, 10**8 + 1, -10**8 - 1, 10**15, -1]))
+
+
+def far_point(project):
+    """OutOfRange of a point, or a point just in range"""
+    r = project.r
+    point = of_steps(project, {39})
+    if point and isinstance(point.get(2), list):
+        numbers = (point.get(2) + ["0.", "0."])[:3]
+        numbers[r.choice([0, 1, 2, 2])] = project.num(r.choice([10**8, -10**8, 10**8 + 1, -10**8 - 1]))
+        point.put(2, numbers)
+
+
+def edge_of_allowance(project):
+    """OutOfRange of a bottom allowance or an overlap, or one just in range"""
+    r = project.r
+    strategy = of_steps(project, {49, 50})
+    if strategy and r.random() < 0.4:
+        strategy.put(1, project.num(r.choice([-1, 0, 999, 1000])))
+    elif project.allowances:
+        number, position, depth = r.choice(project.allowances)
+        project.instances[number].put(position, project.length(depth + r.choice([-1, 0, 1])))
 
 
 def at_edge_of_blocks(project):
     """TooManyBlocks, or a path just below"""
     r = project.r
+    if project.sides and r.random() < 0.7:  # one level of 3,999 rings, or one more
+        number, profile, least = r.choice(project.sides)
+        operation, profile = project.instances[number], project.instances[profile]
+        operation.put(13, "$")
+        operation.put(14, project.length(1))
+        for position in (2, 3):
+            profile.put(position, project.length(least + r.choice([7_996, 7_997, 7_998])))
+        return
     milling = of_steps(project, {47, 48})
     if milling:
         milling.put(14, project.length(r.choice([1, 2, 5, 20])))
@@ -580,7 +638,7 @@ def too_deep(project):
 SAID_FAULTS = [
     (3, wrong_attribute), (1, without_project), (1.5, two_projects), (3, lost_reference), (3, wrong_target), (2, not_built), (3, missing),
     (2, toolpath), (2.5, turned), (4, mismatched), (4, not_rectangle), (3, changed_number), (4, not_positive), (3, out_of_range),
-    (2, at_edge_of_blocks), (2, tool_too_big),
+    (1.5, lost_corner), (2.5, far_point), (2, edge_of_allowance), (2, at_edge_of_blocks), (2, tool_too_big),
     (1.5, too_deep),
 ]
 
@@ -699,6 +757,26 @@ def broken(r, tokens):
         tokens[at] = r.choice(["(", ")", ",", ";", "=", "A-B", "!A", "ISO-10303-21"])
 
 
+def odd_token(r, tokens):
+    """Syntax or BadByte, since a form ends early"""
+    odd = {"number": ["1.E", "1.E+", "1.E-", "1E5", "1.5.", "+-1", "1.E5.", "1.E-A", "5-3", "1..T."],
+           "word": ["!A-5", "A-5", "!_", "_", "A.", "!A.B.", "A!B", "DATA", "!DATA"]}
+    kind = r.choice(list(odd))
+    begins = "+-0123456789" if kind == "number" else "ABCDEFGHIJKLMNOPQRSTUVWXYZ_!"
+    places = [i for i, token in enumerate(tokens) if token[0] in begins]
+    if places:
+        tokens[r.choice(places)] = r.choice(odd[kind])
+
+
+def odd_entry(r, tokens):
+    """A further entry of the header that is right, or Syntax in one"""
+    if "DATA" in tokens:
+        at = max(0, tokens.index("DATA") - 2)
+        odd = [["EXTRA", "(", ")"], ["ENDSEC", "(", ")"], ["ENDSEC", "(", "1", ")"], ["A-B", "(", "1", ")"], ["EXTRA"], ["EXTRA", "=", "1"],
+               ["ENDSEC"], ["(", "1", ")"], ["!DATA", "(", "$", ",", ")"], ["EXTRA", "(", "$", ")"]]
+        tokens[at:at] = r.choice(odd) + [";"]
+
+
 def doubled_instance(r, tokens):
     """Duplicate"""
     names = [i for i, token in enumerate(tokens) if token.startswith("#") and tokens[i - 1] == ";"]
@@ -707,7 +785,8 @@ def doubled_instance(r, tokens):
         tokens[a] = tokens[b]
 
 
-TOKEN_FAULTS = [(1.5, bad_byte), (1.5, bad_name), (1.5, open_string), (1.5, open_comment), (2, long_number), (4, broken), (2, doubled_instance)]
+TOKEN_FAULTS = [(1.5, bad_byte), (1.5, bad_name), (1.5, open_string), (1.5, open_comment), (2, long_number), (4, broken), (2, odd_token),
+                (1.5, odd_entry), (2, doubled_instance)]
 
 
 # ---- From tokens to bytes. ----
@@ -785,7 +864,7 @@ def random_file(r):
     for _ in range(r.choices([0, 1, 2, 3], [35, 35, 20, 10])[0]):
         chosen(r, SAID_FAULTS)(project)
     tokens = tokens_of(project)
-    for _ in range(r.choices([0, 1, 2], [80, 14, 6])[0]):
+    for _ in range(r.choices([0, 1, 2], [78, 16, 6])[0]):
         chosen(r, TOKEN_FAULTS)(r, tokens)
     data = laid_out(r, tokens)
     for _ in range(r.choices([0, 1, 2, 5], [88, 7, 3, 2])[0]):
