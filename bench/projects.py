@@ -129,6 +129,7 @@ class Project:
         self.is_sparse = r.random() < 0.1
         self.steps = []
         self.allowances = []  # operation, position of its bottom allowance, depth
+        self.contours = []  # POLYLINE, its corners
         self.sides = []  # operation, profile, least length that its tool needs: of centred pockets
 
     def fresh(self):
@@ -258,7 +259,9 @@ class Project:
         points = [self.point(a, b, r.choice([0, 0, 7])) for a, b in corners]
         if r.random() < 0.5:
             points.append(points[0] if r.random() < 0.5 else self.point(*corners[0], 1))
-        return self.add("GENERAL_CLOSED_PROFILE", {2: self.add("POLYLINE", {2: points})})
+        line = self.add("POLYLINE", {2: points})
+        self.contours.append((line.number, corners))
+        return self.add("GENERAL_CLOSED_PROFILE", {2: line})
 
     def pocket(self, place, bottom, depth):
         r = self.r
@@ -398,11 +401,11 @@ def wrong_attribute(project):
     found = of_any_class(project, lambda used: used.kind != "flag")
     if found:
         instance, used = found
-        wrong = ["*", text(r), enumeration(r), binary(r), Typed("A", text(r)), Typed("A", Typed("B", "1.")), [text(r)], [[Ref(1)]], "1.E13"]
-        wrong += [] if used.free else ["$"]
-        wrong += {"ref": ["1.", [], [Ref(1)]], "list": [Ref(1), ["$"], [Ref(1), "1."]], "list1": [[], Ref(1)], "num": [Ref(1), ["1."]],
+        anything = ["*", text(r), enumeration(r), binary(r), Typed("A", text(r)), Typed("A", Typed("B", "1.")), [text(r)], [[Ref(1)]], "1.E13"]
+        near = [] if used.free else ["$"]
+        near += {"ref": ["1.", [], [Ref(1)]], "list": [Ref(1), ["$"], [Ref(1), "1."]], "list1": [[], Ref(1)], "num": [Ref(1), ["1."]],
                   "nums": [[], ["1."] * 4, "1.", ["1.", "$"], ["1.", "2.", "-1.E13"]]}.get(used.kind, [["1."]])
-        instance.put(used.position, r.choice(wrong))
+        instance.put(used.position, r.choice(r.choice([anything, near])))
 
 
 def without_project(project):
@@ -498,6 +501,10 @@ def turned(project):
         course.put(3, direction)
     elif placement:
         placement.put(r.choice([3, 4]), direction)
+        if r.random() < 0.3:  # both, so that their order shows
+            other = project.direction(*r.choice(ways)) if r.random() < 0.5 else project.any_of(None)
+            placement.put(3, other)
+            placement.put(4, direction if r.random() < 0.5 else project.any_of(None))
 
 
 def mismatched(project):
@@ -532,7 +539,8 @@ def not_rectangle(project):
         elif way == 6:
             points.append(r.choice(points))
         elif way == 7:
-            points[2:] = [points[0], r.choice(points)]  # there and back
+            a, b, d = points[0], points[min(1, len(points) - 1)], points[min(3, len(points) - 1)]
+            points[:] = r.choice([[a, b, a, d], [a, b, b, a], [a, a, b, b], [a, b, a, b]])  # there and back, or no width
         else:
             r.shuffle(points)
 
@@ -578,6 +586,15 @@ def far_point(project):
         numbers = (point.get(2) + ["0.", "0."])[:3]
         numbers[r.choice([0, 1, 2, 2])] = project.num(r.choice([10**8, -10**8, 10**8 + 1, -10**8 - 1]))
         point.put(2, numbers)
+
+
+def far_contour(project):
+    """OutOfRange of a contour's side, or one just in range"""
+    r = project.r
+    if project.contours:
+        number, corners = r.choice(project.contours)
+        side, far = max(corners)[0], 10**8 + r.choice([0, 1])
+        project.instances[number].put(2, [project.point(far if x == side else x, y, 0) for x, y in corners])
 
 
 def edge_of_allowance(project):
@@ -638,7 +655,7 @@ def too_deep(project):
 SAID_FAULTS = [
     (3, wrong_attribute), (1, without_project), (1.5, two_projects), (3, lost_reference), (3, wrong_target), (2, not_built), (3, missing),
     (2, toolpath), (2.5, turned), (4, mismatched), (4, not_rectangle), (3, changed_number), (4, not_positive), (3, out_of_range),
-    (1.5, lost_corner), (2.5, far_point), (2, edge_of_allowance), (2, at_edge_of_blocks), (2, tool_too_big),
+    (1.5, lost_corner), (2.5, far_point), (1, far_contour), (2, edge_of_allowance), (2, at_edge_of_blocks), (2, tool_too_big),
     (1.5, too_deep),
 ]
 
