@@ -1,4 +1,4 @@
-"""A second implementation of stepnc, written from docs/FORMATS.md alone, to compare the program with.
+"""A second implementation of stepnc, after docs/FORMATS.md, to compare the program with.
 
 It is a plain reading: whole lists, whole numbers and fractions, no cleverness. `answer` takes the words of a command and gives
 status and standard output. bench/compare and bench/hostile use it.
