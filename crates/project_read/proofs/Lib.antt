@@ -1,0 +1,5 @@
+pub mod Typing
+pub mod Storing
+pub mod Planning
+pub mod Faulting
+pub mod Holding

@@ -1,0 +1,39 @@
+-- From the entities of an exchange to their store.
+use Rattle.std.proofs.Common.{◌≡◌, ℕ, List, map, Ok, Err, sym, subst}
+use Rattle.p21_parse.specs.Tree.{ExchangeTree}
+use Rattle.entity_types.specs.declared.entity.Entity.{Entity}
+use Rattle.entity_read.specs.Typed.{entity_of}
+use Rattle.project_store.specs.declared.error.StoreErr.{StoreErr}
+use Rattle.project_store.specs.declared.error.StoreErr.TheVariants as stores
+use Rattle.project_store.specs.Build.{Builds}
+use Rattle.project_read.specs.declared.reason.ProjectReason.TheVariants as reasons
+use Rattle.project_read.specs.declared.reason.ProjectErr.{ProjectErr}
+use Rattle.project_read.specs.declared.reason.ProjectErr.TheVariants.{Refused, NoMemory}
+use Rattle.project_read.specs.Errors.{from_store}
+use Rattle.project_read.specs.Typing.{all_typed}
+use Rattle.project_read.specs.Holds.{HasExchange, HasEntities, HasStore}
+use Rattle.project_read.specs.Reads.{AllTyped, ReadsStore}
+
+-- no entities: then no store
+pub untyped_stop : (bytes : List ℕ) (x : ExchangeTree) (e : ProjectErr) → HasExchange bytes x → AllTyped x.items (Err e) → ReadsStore bytes (Err e)
+untyped_stop bytes x (Refused (reasons.Attribute fault)) has said = (x, has, said)
+untyped_stop bytes x (Refused reasons.TooLong) has said = absurd said
+untyped_stop bytes x (Refused (reasons.Read fault)) has said = absurd said
+untyped_stop bytes x (Refused (reasons.Store fault)) has said = absurd said
+untyped_stop bytes x (Refused reasons.NotBuilt) has said = absurd said
+untyped_stop bytes x (Refused (reasons.Definition n fault)) has said = absurd said
+untyped_stop bytes x (Refused (reasons.NoStep n)) has said = absurd said
+untyped_stop bytes x NoMemory has said = tt
+
+entities : (bytes : List ℕ) (x : ExchangeTree) (es : List Entity) → HasExchange bytes x → all_typed x.items ≡ Ok (map entity_of es) → HasEntities bytes es
+entities bytes x es has typed = record { exchange = x; has = has; typed = typed }
+
+pub store_stop : (bytes : List ℕ) (x : ExchangeTree) (es : List Entity) (f : StoreErr) → HasExchange bytes x → all_typed x.items ≡ Ok (map entity_of es) → Builds es (Err f) → ReadsStore bytes (Err (from_store f))
+store_stop bytes x es stores.NoProject has typed said = (es, entities bytes x es has typed, said)
+store_stop bytes x es (stores.ManyProjects n) has typed said = (es, entities bytes x es has typed, said)
+store_stop bytes x es (stores.Unresolved n r) has typed said = (es, entities bytes x es has typed, said)
+store_stop bytes x es (stores.WrongKind n p) has typed said = (es, entities bytes x es has typed, said)
+store_stop bytes x es stores.NoMemory has typed said = tt
+
+pub stored : (bytes : List ℕ) (x : ExchangeTree) (es store : List Entity) → HasExchange bytes x → all_typed x.items ≡ Ok (map entity_of es) → Builds es (Ok store) → HasStore bytes store
+stored bytes x es store has typed built = subst (λ (fs : List Entity). HasStore bytes fs) (sym built.1) (record { has = entities bytes x es has typed; built = built.0 })

@@ -1,0 +1,43 @@
+-- The project that the bytes of a file hold.
+use Rattle.std.specs.Prelude.{◌≡◌, ℕ, ◌≤◌, true, None, List, length, map, Ok}
+use Rattle.std.specs.List.{list_all}
+use Rattle.p21_parse.specs.Tree.{ExchangeTree}
+use Rattle.p21_parse.specs.Text.{IsText}
+use Rattle.entity_types.specs.declared.entity.Entity.{Entity}
+use Rattle.entity_read.specs.Typed.{entity_of}
+use Rattle.project_store.specs.Build.{fault_of}
+use Rattle.project_read.specs.Typing.{all_typed}
+use Rattle.project_read.specs.Plan.{IsPlan}
+use Rattle.project_read.specs.Faults.{has_def}
+
+-- a project: its entities in file order, the number of its main workplan, and the workingsteps that are the plan's elements
+pub record Project : Type 0 where
+  pub entities : List Entity
+  pub main : ℕ
+  pub steps : List ℕ
+
+-- the bytes are a file of at most so many bytes that spells the exchange
+pub record HasExchange (bytes : List ℕ) (x : ExchangeTree) : Type 0 where
+  pub short : length bytes ≤ 16777216
+  pub spelled : IsText bytes x
+
+-- its instances are these entities
+pub record HasEntities (bytes : List ℕ) (entities : List Entity) : Type 0 where
+  pub exchange : ExchangeTree
+  pub has : HasExchange bytes exchange
+  pub typed : all_typed exchange.items ≡ Ok (map entity_of entities)
+
+-- there is one project among them, and their references are resolved
+pub record HasStore (bytes : List ℕ) (entities : List Entity) : Type 0 where
+  pub has : HasEntities bytes entities
+  pub built : fault_of entities ≡ None
+
+-- and the main workplan is one that this stage can run
+pub record HasPlan (bytes : List ℕ) (p : Project) : Type 0 where
+  pub has : HasStore bytes p.entities
+  pub plan : IsPlan p.entities p.main p.steps
+
+-- the bytes hold the project: and each of its workingsteps has a definition
+pub record Holds (bytes : List ℕ) (p : Project) : Type 0 where
+  pub has : HasPlan bytes p
+  pub defined : list_all (has_def p.entities) p.steps ≡ true

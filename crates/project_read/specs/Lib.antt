@@ -1,0 +1,7 @@
+pub mod Typing
+pub mod Plan
+pub mod Faults
+pub mod Holds
+pub mod Refuses
+pub mod Errors
+pub mod Reads

@@ -1,0 +1,71 @@
+-- What the calls of this crate answer.
+use Rattle.std.specs.Prelude.{◌≡◌, ℕ, true, nat_le, if◌then◌else◌, List, [], ◌∷◌, map, Option, Some, None, Result, Ok, Err}
+use Rattle.std.specs.Global.{Vec}
+use Rattle.std.specs.List.{list_all}
+use Rattle.p21_parse.specs.Tree.{InstanceTree}
+use Rattle.p21_parse.specs.Allowed.{own_number_of}
+use Rattle.entity_types.specs.declared.entity.Entity.{Entity}
+use Rattle.entity_read.specs.Typed.{entity_of}
+use Rattle.project_store.specs.Entities.{entity_at, numbers_of}
+use Rattle.step_def.specs.declared.fault.DefFault.{DefFault}
+use Rattle.step_def.specs.DefOf.{def_of}
+use Rattle.path_blocks.specs.declared.step.Step.{Step}
+use Rattle.project_read.specs.declared.reason.ProjectReason.TheVariants.{Attribute, NotBuilt, Definition}
+use Rattle.project_read.specs.declared.reason.ProjectErr.{ProjectErr}
+use Rattle.project_read.specs.declared.reason.ProjectErr.TheVariants.{Refused, NoMemory}
+use Rattle.project_read.specs.declared.project.Project.{Project as Held}
+use Rattle.project_read.specs.Typing.{all_typed}
+use Rattle.project_read.specs.Plan.{IsPlan}
+use Rattle.project_read.specs.Faults.{has_def, IsLeastFault}
+use Rattle.project_read.specs.Holds.{Project, HasStore, Holds}
+use Rattle.project_read.specs.Refuses.{Refuses}
+
+-- the entities of the instances, or the first bad attribute, unless memory ran out
+abbrev pub AllTyped : List InstanceTree → Result (Vec Entity) ProjectErr → Type 0
+AllTyped instances (Ok entities) = (all_typed instances ≡ Ok (map entity_of entities.items)) × (numbers_of entities.items ≡ map own_number_of instances)
+AllTyped instances (Err (Refused (Attribute fault))) = all_typed instances ≡ Err fault
+AllTyped instances (Err (Refused reason)) = ⊥
+AllTyped instances (Err NoMemory) = Unit {0}
+
+-- the entities of the bytes as a store, or why there is none, unless memory ran out
+abbrev pub ReadsStore : List ℕ → Result (List Entity) ProjectErr → Type 0
+ReadsStore bytes (Ok entities) = HasStore bytes entities
+ReadsStore bytes (Err (Refused reason)) = Refuses bytes reason
+ReadsStore bytes (Err NoMemory) = Unit {0}
+
+-- why there is no main workplan that can be run, unless memory ran out
+abbrev pub HasNoPlan : List Entity → ProjectErr → Type 0
+HasNoPlan entities (Refused NotBuilt) = (main : ℕ) (steps : List ℕ) → IsPlan entities main steps → ⊥
+HasNoPlan entities (Refused reason) = ⊥
+HasNoPlan entities NoMemory = Unit {0}
+
+-- of two workingsteps with a fault, of which there may be only the second, the one of the lesser number
+abbrev pub lesser : Option (ℕ × DefFault) → ℕ × DefFault → ℕ × DefFault
+lesser None other = other
+lesser (Some faulty) other = if nat_le faulty.0 other.0 then faulty else other
+
+-- the steps have these definitions
+abbrev pub HaveDefs : List Entity → List Step → Type 0
+HaveDefs entities [] = Unit {0}
+HaveDefs entities (step ∷ steps) = (def_of (entity_at entities) step.number ≡ Ok step.def) × HaveDefs entities steps
+
+-- the numbers of the steps
+abbrev pub step_numbers : List Step → List ℕ
+step_numbers steps = map (λ step. step.number) steps
+
+-- the steps of these workingsteps with their definitions, or the fault of the least that has one, unless memory ran out
+abbrev pub AreSteps : List Entity → List ℕ → Result (Vec Step) ProjectErr → Type 0
+AreSteps entities numbers (Ok steps) = (step_numbers steps.items ≡ numbers) × (list_all (has_def entities) numbers ≡ true) × HaveDefs entities steps.items
+AreSteps entities numbers (Err (Refused (Definition n fault))) = IsLeastFault entities numbers n fault
+AreSteps entities numbers (Err (Refused reason)) = ⊥
+AreSteps entities numbers (Err NoMemory) = Unit {0}
+
+-- what the program holds of a project
+abbrev pub model_of : Held → Project
+model_of p = record { entities = p.store; main = p.main; steps = step_numbers p.steps.items }
+
+-- the project that stands in the bytes with its steps' definitions, or why none stands there, unless memory ran out
+abbrev pub Reads : List ℕ → Result Held ProjectErr → Type 0
+Reads bytes (Ok p) = Holds bytes (model_of p) × HaveDefs p.store p.steps.items
+Reads bytes (Err (Refused reason)) = Refuses bytes reason
+Reads bytes (Err NoMemory) = Unit {0}
