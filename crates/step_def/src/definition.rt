@@ -327,7 +327,8 @@ pub fn is_workingstep<E: Entities>(from: &E, n: Number) -> bool
 
 /// Whether `n` is a workingstep that drills a round hole, as `resolve` demands at this stage.
 pub fn is_drilled_hole<E: Entities>(from: &E, n: Number) -> bool
-    ensures { result ≡ is_drilled_hole (E.entities from.now) n }
+    ensures exact { result ≡ is_drilled_hole (E.entities from.now) n }
+    ensures step { IsTrue result → IsTrue (is_workingstep (E.entities from.now) n) }
 {
     match from.get(n) {
         Some(step) => {
