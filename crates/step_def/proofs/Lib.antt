@@ -1,3 +1,3 @@
 pub mod Unique
-pub mod Parts
+pub mod Heights
 pub mod Keeping

@@ -1,17 +1,25 @@
 -- The faults of what a walk found: in order, those of each kind as they stand in the walk.
-use Rattle.std.specs.Prelude.{ℤ, pos, negsuc, neg_ℤ, int_le, Bool, not, ◌&&◌, if◌then◌else◌, List, [], ◌∷◌, ◌++◌, Option, Some, None, option_map, Result, Ok, Err, ⊤}
+use Rattle.std.specs.Prelude.{ℤ, pos, negsuc, neg_ℤ, ◌-ℤ◌, int_le, Bool, true, not, ◌&&◌, ◌||◌, if◌then◌else◌, List, [], ◌∷◌, ◌++◌, Option, Some, None, option_map, Result, Ok, Err, ⊤}
+use Rattle.std.specs.Option.{option_map_or}
 use Rattle.std.specs.Int.{is_positive}
 use Rattle.std.specs.Ordering.{int_eq}
 use Rattle.step_def.specs.declared.fault.DefFault.{DefFault}
-use Rattle.step_def.specs.declared.fault.DefFault.TheVariants.{HasToolpath, BadDirection, NotPositive, OutOfRange}
+use Rattle.step_def.specs.declared.fault.DefFault.TheVariants.{HasToolpath, BadDirection, Mismatch, NotRectangle, NotPositive, OutOfRange}
 use Rattle.step_def.specs.declared.found.Coordinates.{Coordinates}
 use Rattle.step_def.specs.declared.found.Figure.{Figure}
 use Rattle.step_def.specs.declared.found.Ranged.{Ranged}
 use Rattle.step_def.specs.declared.found.Placement.{Placement}
+use Rattle.step_def.specs.declared.found.CornerPoints.{CornerPoints}
+use Rattle.step_def.specs.declared.found.Outline.{Outline}
+use Rattle.step_def.specs.declared.found.Outline.TheVariants.{Lengths, Corners, Other}
 use Rattle.step_def.specs.declared.found.FeaturePart.{FeaturePart}
-use Rattle.step_def.specs.declared.found.FeaturePart.TheVariants.{Hole}
+use Rattle.step_def.specs.declared.found.FeaturePart.TheVariants.{Hole, Face, Hollow}
 use Rattle.step_def.specs.declared.found.OperationPart.{OperationPart}
-use Rattle.step_def.specs.declared.found.OperationPart.TheVariants.{Drilling}
+use Rattle.step_def.specs.declared.found.OperationPart.TheVariants.{Drilling, Facing, Pocketing}
+use Rattle.step_def.specs.declared.found.Area.{Area}
+use Rattle.step_def.specs.declared.found.Area.TheVariants.{Centred, Cornered}
+use Rattle.step_def.specs.declared.found.Job.{Job}
+use Rattle.step_def.specs.declared.found.Job.TheVariants.{DrillHole, MillFace, MillPocket}
 use Rattle.step_def.specs.declared.found.Walk.{Walk}
 use Rattle.step_def.specs.Steps.{◌>>=◌}
 use Rattle.step_def.specs.Walk.{figure}
@@ -39,33 +47,97 @@ direction_check test (Some d) = unless (test d) (BadDirection d.number)
 abbrev pub placement_check : Placement → Result ⊤ DefFault
 placement_check placement = direction_check is_upright placement.axis >>= λ _. direction_check is_along_x placement.reference
 
--- no placement of the walk is turned
+-- a course runs along x or along y: its z is 0, and one of its x and y is
+abbrev pub is_straight : Coordinates → Bool
+is_straight d = int_eq d.z (pos 0) && ((int_eq d.x (pos 0) && not (int_eq d.y (pos 0))) || (not (int_eq d.x (pos 0)) && int_eq d.y (pos 0)))
+
+-- the course of a face runs along x or along y
+abbrev pub course_check : FeaturePart → Result ⊤ DefFault
+course_check (Hole diameter) = Ok tt
+course_check (Face face) = unless (is_straight face.course) (BadDirection face.course.number)
+course_check (Hollow outline) = Ok tt
+
+-- no placement of the walk is turned, and a course is straight
 unfoldable pub directions_check : Walk → Result ⊤ DefFault
-directions_check walk = placement_check walk.security >>= λ _. placement_check walk.placement >>= λ _. placement_check walk.floor
+directions_check walk =
+    placement_check walk.security >>= λ _. placement_check walk.placement >>= λ _. placement_check walk.floor >>= λ _. course_check walk.feature_part
+
+-- ---- rectangles, and operations that fit their features
+
+-- the side between these points runs along x and isn't zero
+abbrev pub runs_along_x : Coordinates → Coordinates → Bool
+runs_along_x from to = int_eq from.y to.y && not (int_eq from.x to.x)
+
+-- the side between these points runs along y and isn't zero
+abbrev pub runs_along_y : Coordinates → Coordinates → Bool
+runs_along_y from to = int_eq from.x to.x && not (int_eq from.y to.y)
+
+-- a fifth point has the x and y of the first
+abbrev pub is_closed : CornerPoints → Bool
+is_closed p = option_map_or (λ (fifth : Coordinates). int_eq fifth.x p.first.x && int_eq fifth.y p.first.y) p.fifth true
+
+-- the sides run along x and along y in turn, the first along x
+abbrev pub turns_from_x : CornerPoints → Bool
+turns_from_x p = runs_along_x p.first p.second && runs_along_y p.second p.third && runs_along_x p.third p.fourth && runs_along_y p.fourth p.first
+
+-- the sides run along x and along y in turn, the first along y
+abbrev pub turns_from_y : CornerPoints → Bool
+turns_from_y p = runs_along_y p.first p.second && runs_along_x p.second p.third && runs_along_y p.third p.fourth && runs_along_x p.fourth p.first
+
+-- the points are the corners of a rectangle, one after the other
+abbrev pub is_rectangle : CornerPoints → Bool
+is_rectangle p = (turns_from_x p || turns_from_y p) && is_closed p
+
+-- the rectangle of an outline
+abbrev pub area_of : Outline → Result Area DefFault
+area_of (Lengths length width) = Ok (Centred length width)
+area_of (Corners points) = if is_rectangle points then Ok (Cornered points) else Err (NotRectangle points.polyline)
+area_of (Other n) = Err (NotRectangle n)
+
+-- what the operation makes of the feature: drilling makes holes, milling of planes makes faces, and milling of bottoms and sides
+-- makes pockets
+abbrev pub made_by : Walk → FeaturePart → OperationPart → Result Job DefFault
+made_by walk (Hole diameter) (Drilling dwell) = Ok (DrillHole diameter dwell)
+made_by walk (Face face) (Facing cut) = Ok (MillFace face cut)
+made_by walk (Hollow outline) (Pocketing cut) = area_of outline >>= λ area. Ok (MillPocket area cut)
+made_by walk (Hole diameter) _ = Err (Mismatch walk.operation walk.feature)
+made_by walk (Face face) _ = Err (Mismatch walk.operation walk.feature)
+made_by walk (Hollow outline) _ = Err (Mismatch walk.operation walk.feature)
 
 -- ---- numbers that have to be above 0
 
--- each of these is above 0
-abbrev pub all_positive : List Figure → Result ⊤ DefFault
+-- each of these that is there is above 0
+abbrev pub all_positive : List (Option Figure) → Result ⊤ DefFault
 all_positive [] = Ok tt
-all_positive (x ∷ xs) = if is_positive x.value then all_positive xs else Err (NotPositive x.number x.position)
+all_positive (None ∷ xs) = all_positive xs
+all_positive (Some x ∷ xs) = if is_positive x.value then all_positive xs else Err (NotPositive x.number x.position)
 
 -- how deep the feature is: its bottom plane lies so far below its placement
 abbrev pub depth_of : Walk → ℤ
 depth_of walk = neg_ℤ walk.floor.point.z
 
--- those that a feature adds
-abbrev pub feature_positives : FeaturePart → List Figure
-feature_positives (Hole diameter) = diameter ∷ []
+-- those of a rectangle
+abbrev pub area_positives : Area → List (Option Figure)
+area_positives (Centred length width) = Some length ∷ Some width ∷ []
+area_positives (Cornered points) = []
 
--- those that an operation adds
-abbrev pub operation_positives : OperationPart → List Figure
-operation_positives (Drilling dwell) = []
+-- those of a feature
+abbrev pub feature_positives : Job → List (Option Figure)
+feature_positives (DrillHole diameter dwell) = Some diameter ∷ []
+feature_positives (MillFace face cut) = Some face.length ∷ Some face.width ∷ []
+feature_positives (MillPocket area cut) = area_positives area
 
--- the numbers of the walk that have to be above 0, in order; the depth is blamed on the feature's position 5
-abbrev pub positives : Walk → FeaturePart → OperationPart → List Figure
-positives walk feature operation =
-    figure walk.feature 5 (depth_of walk) ∷ (feature_positives feature ++ (walk.cut.feed ∷ operation_positives operation))
+-- those of an operation
+abbrev pub operation_positives : Job → List (Option Figure)
+operation_positives (DrillHole diameter dwell) = []
+operation_positives (MillFace face cut) = Some cut.diameter ∷ cut.axial ∷ []
+operation_positives (MillPocket area cut) = Some cut.diameter ∷ cut.axial ∷ cut.radial ∷ []
+
+-- the numbers that have to be above 0 are so, the first fault in the order of the walk; the depth is blamed on the feature's position 5
+unfoldable pub positives_check : Walk → Job → Result ⊤ DefFault
+positives_check walk job =
+    unless (is_positive (depth_of walk)) (NotPositive walk.feature 5) >>= λ _. all_positive (feature_positives job)
+    >>= λ _. unless (is_positive walk.cut.feed.value) (NotPositive walk.cut.feed.number walk.cut.feed.position) >>= λ _. all_positive (operation_positives job)
 
 -- ---- numbers that have to be within a range
 
@@ -79,47 +151,90 @@ all_in_range [] = Ok tt
 all_in_range (None ∷ xs) = all_in_range xs
 all_in_range (Some x ∷ xs) = if is_in_range x then all_in_range xs else Err (OutOfRange x.number x.position)
 
--- within 100,000,000 thousandths in size
-abbrev pub sized : Figure → Ranged
-sized x = record { number = x.number; position = x.position; value = x.value; least = negsuc 99999999; greatest = pos 100000000 }
+-- between these ends
+abbrev pub between : ℤ → ℤ → Figure → Ranged
+between least greatest x = record { number = x.number; position = x.position; value = x.value; least = least; greatest = greatest }
 
--- the same, and not below 0
+-- within 100,000,000 thousandths in size
+abbrev pub is_sized : ℤ → Bool
+is_sized z = int_le (negsuc 99999999) z && int_le z (pos 100000000)
+
+-- the same, as a range
+abbrev pub sized : Figure → Ranged
+sized x = between (negsuc 99999999) (pos 100000000) x
+
+-- not below 0, and at most 100,000,000
 abbrev pub unsigned : Figure → Ranged
-unsigned x = record { number = x.number; position = x.position; value = x.value; least = pos 0; greatest = pos 100000000 }
+unsigned x = between (pos 0) (pos 100000000) x
+
+-- a part of the whole, in thousandths, and less than the whole
+abbrev pub partial : Figure → Ranged
+partial x = between (pos 0) (pos 999) x
+
+-- not below 0, and less than the depth
+abbrev pub shallower : Walk → Figure → Ranged
+shallower walk x = between (pos 0) (depth_of walk -ℤ pos 1) x
 
 -- a coordinate of a point, which is blamed on the point's position 2
 abbrev pub coordinate : Coordinates → ℤ → Option Ranged
 coordinate point x = Some (sized (figure point.number 2 x))
 
--- those that a feature adds
-abbrev pub feature_ranges : FeaturePart → List (Option Ranged)
-feature_ranges (Hole diameter) = Some (sized diameter) ∷ []
+-- the x and the y of a point
+abbrev pub x_range : Coordinates → Ranged
+x_range point = sized (figure point.number 2 point.x)
 
--- those that an operation adds
-abbrev pub operation_ranges : OperationPart → List (Option Ranged)
-operation_ranges (Drilling dwell) = option_map unsigned dwell ∷ []
+abbrev pub y_range : Coordinates → Ranged
+y_range point = sized (figure point.number 2 point.y)
 
--- the numbers of the walk with their ranges, in order, with nothing where a free position is `$`; the depth is in its range
--- where the coordinate is
-abbrev pub ranges : Walk → FeaturePart → OperationPart → List (Option Ranged)
-ranges walk feature operation =
-    coordinate walk.security.point walk.security.point.z
-    ∷ coordinate walk.placement.point walk.placement.point.x
-    ∷ coordinate walk.placement.point walk.placement.point.y
-    ∷ coordinate walk.placement.point walk.placement.point.z
-    ∷ coordinate walk.floor.point walk.floor.point.z
-    ∷ (feature_ranges feature
-    ++ (option_map unsigned walk.cut.retract
-    ∷ Some (sized walk.cut.feed)
-    ∷ Some (sized walk.cut.spindle)
-    ∷ operation_ranges operation))
+-- the x and the y of a polyline's points
+abbrev pub corner_ranges : CornerPoints → List (Option Ranged)
+corner_ranges p =
+    coordinate p.first p.first.x ∷ coordinate p.first p.first.y ∷ coordinate p.second p.second.x ∷ coordinate p.second p.second.y
+    ∷ coordinate p.third p.third.x ∷ coordinate p.third p.third.y ∷ coordinate p.fourth p.fourth.x ∷ coordinate p.fourth p.fourth.y
+    ∷ option_map x_range p.fifth ∷ option_map y_range p.fifth ∷ []
 
--- ---- all kinds, in their order
+-- those of a rectangle
+abbrev pub area_ranges : Area → List (Option Ranged)
+area_ranges (Centred length width) = Some (sized length) ∷ Some (sized width) ∷ []
+area_ranges (Cornered points) = corner_ranges points
 
--- the first fault of what the walk found; a drilled hole has no fault of the other kinds
-unfoldable pub walk_check : Walk → Result ⊤ DefFault
-walk_check walk = do
+-- those of a feature
+abbrev pub feature_ranges : Job → List (Option Ranged)
+feature_ranges (DrillHole diameter dwell) = Some (sized diameter) ∷ []
+feature_ranges (MillFace face cut) = Some (sized face.length) ∷ Some (sized face.width) ∷ []
+feature_ranges (MillPocket area cut) = area_ranges area
+
+-- those of an operation
+abbrev pub operation_ranges : Walk → Job → List (Option Ranged)
+operation_ranges walk (DrillHole diameter dwell) = option_map unsigned dwell ∷ []
+operation_ranges walk (MillFace face cut) =
+    Some (sized cut.diameter) ∷ option_map partial cut.strategy.overlap ∷ option_map sized cut.axial ∷ option_map (shallower walk) cut.bottom ∷ []
+operation_ranges walk (MillPocket area cut) =
+    Some (sized cut.diameter) ∷ option_map sized cut.axial ∷ option_map sized cut.radial ∷ option_map unsigned cut.side ∷ option_map (shallower walk) cut.bottom ∷ []
+
+-- those of every walk before its feature; the depth is in its range where the coordinate is
+abbrev pub place_ranges : Walk → List (Option Ranged)
+place_ranges walk =
+    coordinate walk.security.point walk.security.point.z ∷ coordinate walk.placement.point walk.placement.point.x ∷ coordinate walk.placement.point walk.placement.point.y
+    ∷ coordinate walk.placement.point walk.placement.point.z ∷ coordinate walk.floor.point walk.floor.point.z ∷ []
+
+-- those of every operation
+abbrev pub cut_ranges : Walk → List (Option Ranged)
+cut_ranges walk = option_map unsigned walk.cut.retract ∷ Some (sized walk.cut.feed) ∷ Some (sized walk.cut.spindle) ∷ []
+
+-- the numbers of the walk are within their ranges, the first fault in the order of the walk
+unfoldable pub ranges_check : Walk → Job → Result ⊤ DefFault
+ranges_check walk job =
+    all_in_range (place_ranges walk) >>= λ _. all_in_range (feature_ranges job) >>= λ _. all_in_range (cut_ranges walk) >>= λ _. all_in_range (operation_ranges walk job)
+
+-- ---- the kinds up to the ranges, in their order
+
+-- what the walk makes, where none of these faults stands in the way
+unfoldable pub job_of : Walk → Result Job DefFault
+job_of walk = do
   no_toolpath ← unless (not walk.has_toolpath) (HasToolpath walk.operation)
-  unturned ← directions_check walk
-  above_zero ← all_positive (positives walk walk.feature_part walk.operation_part)
-  all_in_range (ranges walk walk.feature_part walk.operation_part)
+  straight ← directions_check walk
+  job ← made_by walk walk.feature_part walk.operation_part
+  above_zero ← positives_check walk job
+  in_range ← ranges_check walk job
+  Ok job

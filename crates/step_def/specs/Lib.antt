@@ -3,6 +3,7 @@ pub mod Steps
 pub mod Walk
 pub mod Faults
 pub mod Numbers
+pub mod Sides
 pub mod Ranges
 pub mod Sound
 pub mod DefOf

@@ -1,20 +1,27 @@
 -- The numbers of a definition.
-use Rattle.std.specs.Prelude.{ℕ, ℤ, pos, ◌+ℤ◌, ◌-ℤ◌, Option, Result, Ok}
+use Rattle.std.specs.Prelude.{ℕ, ℤ, Bool, pos, negsuc, ◌+◌, ◌-◌, ◌*◌, ◌/◌, max, ◌+ℤ◌, ◌-ℤ◌, int_le, int_lt, nat_le, unsigned_abs, ◌&&◌, if◌then◌else◌, Option, Result, Ok, Err}
 use Rattle.std.specs.Option.{option_map_or}
+use Rattle.std.specs.Int.{int_min, int_max}
+use Rattle.std.specs.Ordering.{int_eq}
 use Rattle.path_blocks.specs.declared.def.Shape.{Shape}
-use Rattle.path_blocks.specs.declared.def.Shape.TheVariants.{Drill}
+use Rattle.path_blocks.specs.declared.def.Shape.TheVariants.{Drill, Plane, Pocket}
+use Rattle.path_blocks.specs.Count.{block_count}
 use Rattle.path_blocks.specs.Numbers.{Numbers}
+use Rattle.path_blocks.specs.PathPocket.{Rectangle, shrunk}
 use Rattle.entity_types.specs.declared.entity.Entity.{Entity}
 use Rattle.step_def.specs.declared.fault.DefFault.{DefFault}
+use Rattle.step_def.specs.declared.fault.DefFault.TheVariants.{ToolTooBig, TooManyBlocks}
 use Rattle.step_def.specs.declared.found.Figure.{Figure}
-use Rattle.step_def.specs.declared.found.FeaturePart.{FeaturePart}
-use Rattle.step_def.specs.declared.found.FeaturePart.TheVariants.{Hole}
-use Rattle.step_def.specs.declared.found.OperationPart.{OperationPart}
-use Rattle.step_def.specs.declared.found.OperationPart.TheVariants.{Drilling}
+use Rattle.step_def.specs.declared.found.Area.{Area}
+use Rattle.step_def.specs.declared.found.Area.TheVariants.{Centred, Cornered}
+use Rattle.step_def.specs.declared.found.FaceCut.{FaceCut}
+use Rattle.step_def.specs.declared.found.PocketCut.{PocketCut}
+use Rattle.step_def.specs.declared.found.Job.{Job}
+use Rattle.step_def.specs.declared.found.Job.TheVariants.{DrillHole, MillFace, MillPocket}
 use Rattle.step_def.specs.declared.found.Walk.{Walk}
 use Rattle.step_def.specs.Steps.{◌>>=◌}
 use Rattle.step_def.specs.Walk.{found, walk_of}
-use Rattle.step_def.specs.Faults.{depth_of, walk_check}
+use Rattle.step_def.specs.Faults.{depth_of, job_of}
 
 -- a number that may be left out
 abbrev pub or_else : ℤ → Option Figure → ℤ
@@ -24,32 +31,97 @@ or_else otherwise x = option_map_or (λ (f : Figure). f.value) x otherwise
 abbrev pub retract_height : Walk → ℤ
 retract_height walk = option_map_or (λ (retract : Figure). walk.placement.point.z +ℤ retract.value) walk.cut.retract walk.security.point.z
 
--- a hole at the placement
-abbrev pub shape_of : Walk → FeaturePart → OperationPart → Shape
-shape_of walk (Hole diameter) (Drilling dwell) = Drill walk.placement.point.x walk.placement.point.y (or_else (pos 0) dwell)
+-- how much is left at the bottom
+abbrev pub allowance_of : Job → ℤ
+allowance_of (DrillHole diameter dwell) = pos 0
+allowance_of (MillFace face cut) = or_else (pos 0) cut.bottom
+allowance_of (MillPocket area cut) = or_else (pos 0) cut.bottom
 
--- the numbers of the walk of such a feature and such an operation
-abbrev pub numbers_by : Walk → FeaturePart → OperationPart → Numbers
-numbers_by walk feature_part operation_part = record {
+-- the greatest depth of a level: the whole depth where none is given, as for a hole
+abbrev pub axial_of : Walk → Job → ℤ
+axial_of walk (DrillHole diameter dwell) = depth_of walk
+axial_of walk (MillFace face cut) = or_else (depth_of walk) cut.axial
+axial_of walk (MillPocket area cut) = or_else (depth_of walk) cut.axial
+
+-- ---- faces
+
+-- 1, 0 or -1, as the number is above 0, 0 or below 0
+abbrev pub sign_of : ℤ → ℤ
+sign_of z = if int_eq z (pos 0) then pos 0 else if int_lt (pos 0) z then pos 1 else negsuc 0
+
+-- how far rows lie apart: what the overlap, in thousandths, leaves of the tool's diameter, truncated, at least 1
+abbrev pub step_of : FaceCut → ℕ
+step_of cut = max (unsigned_abs cut.diameter.value * (1000 - unsigned_abs (or_else (pos 0) cut.strategy.overlap)) / 1000) 1
+
+-- ---- pockets
+
+-- the rectangle of a pocket: centred on the placement, half the length truncated to its left, or the polyline's, moved by the placement
+abbrev pub rectangle_of : Walk → Area → Rectangle
+rectangle_of walk (Centred length width) =
+    let left = walk.placement.point.x -ℤ pos (unsigned_abs length.value / 2) in
+    let low = walk.placement.point.y -ℤ pos (unsigned_abs width.value / 2) in
+    record { left = left; low = low; right = left +ℤ length.value; high = low +ℤ width.value }
+rectangle_of walk (Cornered p) = record {
+  left = walk.placement.point.x +ℤ int_min p.first.x p.third.x;
+  low = walk.placement.point.y +ℤ int_min p.first.y p.third.y;
+  right = walk.placement.point.x +ℤ int_max p.first.x p.third.x;
+  high = walk.placement.point.y +ℤ int_max p.first.y p.third.y;
+}
+
+-- how far the middle of the tool stays from the sides: half its diameter, rounded up, and what is left at the sides
+abbrev pub inset_of : PocketCut → ℕ
+inset_of cut = (unsigned_abs cut.diameter.value + 1) / 2 + unsigned_abs (or_else (pos 0) cut.side)
+
+-- the rectangle that the middle of the tool keeps within
+abbrev pub inset_rectangle : Walk → Area → PocketCut → Rectangle
+inset_rectangle walk area cut = shrunk (rectangle_of walk area) (inset_of cut)
+
+-- no side of the rectangle is below 0
+abbrev pub has_room : Rectangle → Bool
+has_room r = int_le r.left r.right && int_le r.low r.high
+
+-- how far rings lie apart: half the tool's diameter, truncated, at least 1, where nothing else is given
+abbrev pub radial_of : PocketCut → ℤ
+radial_of cut = or_else (pos (max (unsigned_abs cut.diameter.value / 2) 1)) cut.radial
+
+-- the pocket of a rectangle
+abbrev pub pocket_in : Rectangle → ℤ → Shape
+pocket_in r radial = Pocket r.left r.low r.right r.high radial
+
+-- ---- all numbers
+
+-- the shape that is made, unless the tool is too big for it
+abbrev pub shape_of : Walk → Job → Result Shape DefFault
+shape_of walk (DrillHole diameter dwell) = Ok (Drill walk.placement.point.x walk.placement.point.y (or_else (pos 0) dwell))
+shape_of walk (MillFace face cut) =
+    Ok (Plane walk.placement.point.x walk.placement.point.y (sign_of face.course.x) (sign_of face.course.y) face.length.value face.width.value (pos (step_of cut)) cut.strategy.both)
+shape_of walk (MillPocket area cut) =
+    if has_room (inset_rectangle walk area cut) then Ok (pocket_in (inset_rectangle walk area cut) (radial_of cut)) else Err (ToolTooBig walk.cut.tool)
+
+-- the numbers with this shape
+abbrev pub numbers_with : Walk → Job → Shape → Numbers
+numbers_with walk job shape = record {
   tool = walk.cut.tool;
   spindle = walk.cut.spindle.value;
   feed = walk.cut.feed.value;
   sec = walk.security.point.z;
   ret = retract_height walk;
   z0 = walk.placement.point.z;
-  bottom = walk.placement.point.z -ℤ depth_of walk;
-  axial = depth_of walk;
-  shape = shape_of walk feature_part operation_part;
+  bottom = walk.placement.point.z -ℤ depth_of walk +ℤ allowance_of job;
+  axial = axial_of walk job;
+  shape = shape;
 }
 
--- the numbers that the walk comes down to
-abbrev pub numbers_from : Walk → Numbers
-numbers_from walk = numbers_by walk walk.feature_part walk.operation_part
+-- the numbers, unless the path of step n would have too many blocks
+abbrev pub few_blocks : ℕ → Numbers → Result Numbers DefFault
+few_blocks n x =
+    let count = block_count x.z0 x.bottom x.axial x.shape in if nat_le count 20000 then Ok x else Err (TooManyBlocks n count)
 
 -- the numbers of the definition of workingstep n, or its first fault; an n that is not there has no feature at its position 3
 unfoldable pub numbers_at : (ℕ → Option Entity) → ℕ → Result Numbers DefFault
 numbers_at from n = do
   step ← found n 3 (from n)
   walk ← walk_of from n step
-  sound ← walk_check walk
-  Ok (numbers_from walk)
+  job ← job_of walk
+  shape ← shape_of walk job
+  few_blocks n (numbers_with walk job shape)

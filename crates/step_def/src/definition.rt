@@ -1,42 +1,76 @@
 //! The definition of a workingstep.
 
-ghost use Rattle.std.specs.Prelude.{◌≡◌, ◌+◌, pos, ◌-ℤ◌, IsTrue};
+ghost use Rattle.std.specs.Prelude.{◌≡◌, ℤ, ◌+◌, ◌/◌, ◌≤◌, unsigned_abs, pos, ◌+ℤ◌, ◌-ℤ◌, IsTrue, Ok};
 ghost use Rattle.entity_types.specs.declared.class.Class.TheVariants.{RoundHole};
+ghost use Rattle.std.specs.Int.{int_max, int_min, is_positive};
+ghost use Rattle.path_blocks.specs.Numbers.{numbers_of};
+ghost use Rattle.path_blocks.specs.PathPocket.{shrunk};
+ghost use Rattle.path_blocks.specs.Range.{is_within};
 ghost use Rattle.step_def.specs.Steps.{Gives};
 ghost use Rattle.step_def.specs.Walk.{is_of, is_drilling};
-ghost use Rattle.step_def.specs.Faults.{depth_of};
-ghost use Rattle.path_blocks.specs.Numbers.{numbers_of};
-ghost use Rattle.step_def.specs.Numbers.{or_else, retract_height, shape_of, numbers_from, numbers_at};
-ghost use Rattle.step_def.specs.Ranges.{KeepsRanges};
-ghost use Rattle.step_def.specs.Condition.{is_drilled_hole, refers_to};
+ghost use Rattle.step_def.specs.Faults.{depth_of, is_sized, job_of};
+ghost use Rattle.step_def.specs.Numbers.{allowance_of, axial_of, few_blocks, has_room, inset_of, numbers_at, numbers_with, or_else, pocket_in, radial_of, rectangle_of, retract_height, shape_of, sign_of, step_of};
+ghost use Rattle.step_def.specs.Sides.{rectangle_with};
+ghost use Rattle.step_def.specs.Sound.{AreaFacts, CornersFacts, Facts, IfBetween, PlaceFacts, PocketFacts, RectangleWithin, SidesFacts};
+ghost use Rattle.step_def.specs.Condition.{is_drilled_hole, is_workingstep, refers_to};
 ghost use Rattle.step_def.specs.DefOf.{def_of};
 
-use crate::check::walk_check;
+use crate::check::job_of;
 use crate::fault::DefFault;
-use crate::found::{FeaturePart, Figure, OperationPart, Walk};
+use crate::found::{Area, CornerPoints, FaceCut, Figure, Job, PocketCut, Sides, Walk};
 use crate::walk::{is_drilling, is_of, referred, walk_of};
 use entity_types::{Class, Entity};
 use nc_base::{Number, Steps};
-use path_blocks::{Def, Shape};
+use path_blocks::{Def, Shape, block_count};
 use project_store::Entities;
 use std::sync::ledger::Ledger;
 
 fn depth_of(walk: &Walk) -> i64
-    requires { KeepsRanges (numbers_from walk.now) }
+    requires { PlaceFacts walk.now }
     ensures { result ≡ depth_of walk.now }
 {
     -walk.floor.point.z
 }
 
-fn bottom_of(walk: &Walk) -> i64
-    requires { KeepsRanges (numbers_from walk.now) }
-    ensures { result ≡ walk.now.placement.point.z -ℤ depth_of walk.now }
+fn value_or(otherwise: i64, x: &Option<Figure>) -> i64
+    ensures { result ≡ or_else otherwise x.now }
 {
-    walk.placement.point.z - depth_of(walk)
+    match x {
+        Some(x) => x.value,
+        None => otherwise,
+    }
+}
+
+fn allowance_of(job: &Job) -> i64
+    ensures { result ≡ allowance_of job.now }
+{
+    match job {
+        Job::DrillHole { .. } => 0,
+        Job::MillFace { cut, .. } => value_or(0, &cut.bottom),
+        Job::MillPocket { cut, .. } => value_or(0, &cut.bottom),
+    }
+}
+
+fn bottom_of(walk: &Walk, job: &Job) -> i64
+    requires { Facts walk.now job.now }
+    ensures { result ≡ walk.now.placement.point.z -ℤ depth_of walk.now +ℤ allowance_of job.now }
+{
+    walk.placement.point.z + walk.floor.point.z + allowance_of(job)
+}
+
+fn axial_of(walk: &Walk, job: &Job) -> i64
+    requires { PlaceFacts walk.now }
+    ensures { result ≡ axial_of walk.now job.now }
+{
+    match job {
+        Job::DrillHole { .. } => depth_of(walk),
+        Job::MillFace { cut, .. } => value_or(depth_of(walk), &cut.axial),
+        Job::MillPocket { cut, .. } => value_or(depth_of(walk), &cut.axial),
+    }
 }
 
 fn retract_height(walk: &Walk) -> i64
-    requires { KeepsRanges (numbers_from walk.now) }
+    requires { PlaceFacts walk.now }
     ensures { result ≡ retract_height walk.now }
 {
     match &walk.cut.retract {
@@ -45,42 +79,227 @@ fn retract_height(walk: &Walk) -> i64
     }
 }
 
-fn value_or_zero(x: &Option<Figure>) -> i64
-    ensures { result ≡ or_else (pos 0) x.now }
+fn sign_of(z: i64) -> i64
+    ensures { result ≡ sign_of z }
 {
-    match x {
-        Some(x) => x.value,
-        None => 0,
+    if z == 0 {
+        0
+    } else if z > 0 {
+        1
+    } else {
+        -1
     }
 }
 
-fn shape_of(walk: &Walk) -> Shape
-    ensures { result ≡ shape_of walk.now walk.now.feature_part walk.now.operation_part }
+/// How far rows lie apart: what the overlap leaves of the tool's diameter.
+fn step_of(cut: &FaceCut) -> i64
+    requires diameter { IsTrue (is_sized cut.now.diameter.value) }
+    requires overlap { IfBetween (pos 0) (pos 999) cut.now.strategy.overlap }
+    ensures { result ≡ pos (step_of cut.now) }
 {
-    match (&walk.feature_part, &walk.operation_part) {
-        (FeaturePart::Hole { .. }, OperationPart::Drilling { dwell }) => Shape::Drill {
-            x: walk.placement.point.x,
-            y: walk.placement.point.y,
-            dwell: value_or_zero(dwell),
-        },
+    let overlap = value_or(0, &cut.strategy.overlap).unsigned_abs();
+    (cut.diameter.value.unsigned_abs() * (1000 - overlap) / 1000).max(1) as i64
+}
+
+/// How far rings lie apart: half the tool's diameter where nothing else is given.
+fn radial_of(cut: &PocketCut) -> i64
+    requires { IsTrue (is_sized cut.now.diameter.value) }
+    ensures { result ≡ radial_of cut.now }
+{
+    match &cut.radial {
+        Some(radial) => radial.value,
+        None => (cut.diameter.value.unsigned_abs() / 2).max(1) as i64,
     }
 }
 
-fn def_from(walk: &Walk) -> Def
-    requires { KeepsRanges (numbers_from walk.now) }
-    ensures { numbers_of result ≡ numbers_from walk.now }
+/// How far the middle of the tool stays from the sides.
+fn inset_of(cut: &PocketCut) -> u64
+    requires diameter { IsTrue (is_sized cut.now.diameter.value) }
+    requires side { IfBetween (pos 0) (pos 100000000) cut.now.side }
+    ensures exact { result ≡ inset_of cut.now }
+    ensures short { result ≤ 200000000 }
 {
-    Def {
+    (cut.diameter.value.unsigned_abs() + 1) / 2 + value_or(0, &cut.side).unsigned_abs()
+}
+
+/// Where a side of this length begins, which is centred on a place.
+fn centred_from(at: &i64, length: &Figure) -> i64
+    requires at { IsTrue (is_sized at.now) }
+    requires length { IsTrue (is_sized length.now.value) }
+    ensures exact { result ≡ at.now -ℤ pos (unsigned_abs length.now.value / 2) }
+    ensures within { IsTrue (is_within result) }
+{
+    *at - (length.value.unsigned_abs() / 2) as i64
+}
+
+/// Where it ends.
+fn centred_to(at: &i64, length: &Figure) -> i64
+    requires at { IsTrue (is_sized at.now) }
+    requires length { IsTrue (is_sized length.now.value) }
+    requires long { IsTrue (is_positive length.now.value) }
+    ensures exact { result ≡ at.now -ℤ pos (unsigned_abs length.now.value / 2) +ℤ length.now.value }
+    ensures within { IsTrue (is_within result) }
+{
+    centred_from(at, length) + length.value
+}
+
+/// The lesser of two coordinates, from a place.
+fn lesser_from(at: &i64, a: &i64, b: &i64) -> i64
+    requires at { IsTrue (is_sized at.now) }
+    requires a { IsTrue (is_sized a.now) }
+    requires b { IsTrue (is_sized b.now) }
+    ensures exact { result ≡ at.now +ℤ int_min a.now b.now }
+    ensures within { IsTrue (is_within result) }
+{
+    if *b < *a { *at + *b } else { *at + *a }
+}
+
+/// The greater of two coordinates, from a place.
+fn greater_from(at: &i64, a: &i64, b: &i64) -> i64
+    requires at { IsTrue (is_sized at.now) }
+    requires a { IsTrue (is_sized a.now) }
+    requires b { IsTrue (is_sized b.now) }
+    ensures exact { result ≡ at.now +ℤ int_max a.now b.now }
+    ensures within { IsTrue (is_within result) }
+{
+    if *b < *a { *at + *a } else { *at + *b }
+}
+
+/// The rectangle with sides of these lengths that is centred on the placement.
+fn centred(walk: &Walk, length: &Figure, width: &Figure) -> Sides
+    requires place { PlaceFacts walk.now }
+    requires sides { SidesFacts length.now width.now }
+    ensures exact { rectangle_with result ≡ rectangle_of walk.now (Area.Centred length.now width.now) }
+    ensures within { RectangleWithin (rectangle_with result) }
+{
+    let at = &walk.placement.point;
+    Sides {
+        left: centred_from(&at.x, length),
+        low: centred_from(&at.y, width),
+        right: centred_to(&at.x, length),
+        high: centred_to(&at.y, width),
+    }
+}
+
+/// The rectangle whose corners these are, from the placement.
+fn cornered(walk: &Walk, p: &CornerPoints) -> Sides
+    requires place { PlaceFacts walk.now }
+    requires corners { CornersFacts p.now }
+    ensures exact { rectangle_with result ≡ rectangle_of walk.now (Area.Cornered p.now) }
+    ensures within { RectangleWithin (rectangle_with result) }
+{
+    let at = &walk.placement.point;
+    Sides {
+        left: lesser_from(&at.x, &p.first.x, &p.third.x),
+        low: lesser_from(&at.y, &p.first.y, &p.third.y),
+        right: greater_from(&at.x, &p.first.x, &p.third.x),
+        high: greater_from(&at.y, &p.first.y, &p.third.y),
+    }
+}
+
+/// The rectangle of a pocket.
+fn rectangle_of(walk: &Walk, area: &Area) -> Sides
+    requires place { PlaceFacts walk.now }
+    requires area { AreaFacts area.now }
+    ensures exact { rectangle_with result ≡ rectangle_of walk.now area.now }
+    ensures within { RectangleWithin (rectangle_with result) }
+{
+    match area {
+        Area::Centred { length, width } => centred(walk, length, width),
+        Area::Cornered(p) => cornered(walk, p),
+    }
+}
+
+/// The rectangle shrunk by so much on each side.
+fn shrunk(sides: &Sides, by: u64) -> Sides
+    requires within { RectangleWithin (rectangle_with sides.now) }
+    requires by { by ≤ 200000000 }
+    ensures { rectangle_with result ≡ shrunk (rectangle_with sides.now) by }
+{
+    let by = by as i64;
+    Sides {
+        left: sides.left + by,
+        low: sides.low + by,
+        right: sides.right - by,
+        high: sides.high - by,
+    }
+}
+
+fn has_room(sides: &Sides) -> bool
+    ensures { result ≡ has_room (rectangle_with sides.now) }
+{
+    sides.left <= sides.right && sides.low <= sides.high
+}
+
+/// The pocket that the middle of the tool keeps within.
+fn pocket_of(walk: &Walk, area: &Area, cut: &PocketCut) -> Result<Shape, DefFault>
+    requires place { PlaceFacts walk.now }
+    requires pocket { PocketFacts walk.now area.now cut.now }
+    ensures { result ≡ shape_of walk.now (Job.MillPocket area.now cut.now) }
+{
+    let sides = shrunk(&rectangle_of(walk, area), inset_of(cut));
+    if !has_room(&sides) {
+        return Err(DefFault::ToolTooBig(walk.cut.tool));
+    }
+    Ok(Shape::Pocket {
+        left: sides.left,
+        low: sides.low,
+        right: sides.right,
+        high: sides.high,
+        radial: radial_of(cut),
+    })
+}
+
+fn shape_of(walk: &Walk, job: &Job) -> Result<Shape, DefFault>
+    requires { Facts walk.now job.now }
+    ensures { result ≡ shape_of walk.now job.now }
+{
+    let x = walk.placement.point.x;
+    let y = walk.placement.point.y;
+    match job {
+        Job::DrillHole { dwell, .. } => Ok(Shape::Drill {
+            x,
+            y,
+            dwell: value_or(0, dwell),
+        }),
+        Job::MillFace { face, cut } => Ok(Shape::Plane {
+            x,
+            y,
+            ux: sign_of(face.course.x),
+            uy: sign_of(face.course.y),
+            length: face.length.value,
+            width: face.width.value,
+            step: step_of(cut),
+            both: cut.strategy.both,
+        }),
+        Job::MillPocket { area, cut } => pocket_of(walk, area, cut),
+    }
+}
+
+/// The definition with this shape, unless its path would have too many blocks.
+fn def_with(n: Number, walk: &Walk, job: &Job, shape: &Shape) -> Result<Def, DefFault>
+    requires job { job_of walk.now ≡ Ok job.now }
+    requires shape { shape_of walk.now job.now ≡ Ok shape.now }
+    ensures { Gives numbers_of result (few_blocks n (numbers_with walk.now job.now shape.now)) }
+{
+    let z0 = walk.placement.point.z;
+    let bottom = bottom_of(walk, job);
+    let axial = axial_of(walk, job);
+    let count = block_count(z0, bottom, axial, shape);
+    if count > 20_000 {
+        return Err(DefFault::TooManyBlocks(n, count));
+    }
+    Ok(Def {
         tool: walk.cut.tool,
         spindle: walk.cut.spindle.value,
         feed: walk.cut.feed.value,
         sec: walk.security.point.z,
         ret: retract_height(walk),
-        z0: walk.placement.point.z,
-        bottom: bottom_of(walk),
-        axial: depth_of(walk),
-        shape: shape_of(walk),
-    }
+        z0,
+        bottom,
+        axial,
+        shape: *shape,
+    })
 }
 
 #[tactic(auto, unfolding(crate::specs::Numbers::numbers_at))]
@@ -91,13 +310,25 @@ fn checked<E: Entities>(from: &E, n: Number) -> Result<Def, DefFault>
         return Err(DefFault::Missing(n, 3));
     };
     let walk = walk_of(from, n, step)?;
-    walk_check(&walk)?;
-    Ok(def_from(&walk))
+    let job = job_of(&walk)?;
+    let shape = shape_of(&walk, &job)?;
+    def_with(n, &walk, &job, &shape)
+}
+
+/// Whether `n` is a workingstep, as `resolve` demands.
+pub fn is_workingstep<E: Entities>(from: &E, n: Number) -> bool
+    ensures { result ≡ is_workingstep (E.entities from.now) n }
+{
+    match from.get(n) {
+        Some(step) => is_of(Class::MachiningWorkingstep, step),
+        None => false,
+    }
 }
 
 /// Whether `n` is a workingstep that drills a round hole, as `resolve` demands at this stage.
 pub fn is_drilled_hole<E: Entities>(from: &E, n: Number) -> bool
-    ensures { result ≡ is_drilled_hole (E.entities from.now) n }
+    ensures exact { result ≡ is_drilled_hole (E.entities from.now) n }
+    ensures step { IsTrue result → IsTrue (is_workingstep (E.entities from.now) n) }
 {
     match from.get(n) {
         Some(step) => {
@@ -127,20 +358,17 @@ fn refers_to_drilling<E: Entities>(from: &E, step: &Entity) -> bool
     }
 }
 
-/// The definition of workingstep `n`: the numbers that its path depends on. It counts one step and takes no memory.
-///
-/// At this stage `n` is a workingstep that drills a round hole (drilling, center drilling, reaming or boring); faces, pockets and
-/// milling come as further cases. The definition follows this profile's table of look-ups after ISO 14649-10 and ISO 14649-11.
+/// The definition of workingstep `n`: the numbers that its path depends on. It counts one step and takes no memory. The definition
+/// follows this profile's table of look-ups after ISO 14649-10 and ISO 14649-11.
 ///
 /// # Errors
-/// The first fault, in the order of `DefFault`, and of one kind the first in the order in which the instances are looked up. A
-/// drilled hole can have the kinds `Missing`, `HasToolpath`, `BadDirection`, `NotPositive` and `OutOfRange`.
+/// The first fault, in the order of `DefFault`, and of one kind the first in the order in which the instances are looked up.
 pub fn resolve<E: Entities, L: Ledger>(
     from: &E,
     n: Number,
     steps: &mut Steps<L>,
 ) -> Result<Def, DefFault>
-    requires { IsTrue (is_drilled_hole (E.entities from.now) n) }
+    requires { IsTrue (is_workingstep (E.entities from.now) n) }
     ensures exact { result ≡ def_of (E.entities from.now) n }
     ensures ticked { steps.new ≡ steps.old + 1 }
 {

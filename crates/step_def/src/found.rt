@@ -46,16 +46,76 @@ pub(crate) struct Cut {
     pub(crate) spindle: Figure,
 }
 
+/// What is found of a planar face: how far and in which direction its course runs, and how wide it is.
+#[derive(Clone, Copy)]
+pub(crate) struct FacePart {
+    pub(crate) length: Figure,
+    pub(crate) course: Coordinates,
+    pub(crate) width: Figure,
+}
+
+/// The points of a polyline of four points, or of five.
+#[derive(Clone, Copy)]
+pub(crate) struct CornerPoints {
+    pub(crate) polyline: Number,
+    pub(crate) first: Coordinates,
+    pub(crate) second: Coordinates,
+    pub(crate) third: Coordinates,
+    pub(crate) fourth: Coordinates,
+    pub(crate) fifth: Option<Coordinates>,
+}
+
+/// The outline of a pocket.
+#[derive(Clone, Copy)]
+pub(crate) enum Outline {
+    /// The lengths of a rectangle that is centred on the placement.
+    Lengths { length: Figure, width: Figure },
+    /// The points of a polyline.
+    Corners(CornerPoints),
+    /// The number of a profile, a contour or a polyline that is no rectangle.
+    Other(Number),
+}
+
 /// What is found of a feature, by its class.
 #[derive(Clone, Copy)]
 pub(crate) enum FeaturePart {
     Hole { diameter: Figure },
+    Face(FacePart),
+    Hollow { outline: Outline },
+}
+
+/// How the rows of a face follow each other, and how much they overlap, in thousandths of the tool's diameter.
+#[derive(Clone, Copy)]
+pub(crate) struct Strategy {
+    pub(crate) both: bool,
+    pub(crate) overlap: Option<Figure>,
+}
+
+/// What is found of an operation that mills a plane.
+#[derive(Clone, Copy)]
+pub(crate) struct FaceCut {
+    pub(crate) diameter: Figure,
+    pub(crate) strategy: Strategy,
+    pub(crate) axial: Option<Figure>,
+    pub(crate) bottom: Option<Figure>,
+}
+
+/// What is found of an operation that mills a pocket.
+#[derive(Clone, Copy)]
+pub(crate) struct PocketCut {
+    pub(crate) diameter: Figure,
+    pub(crate) axial: Option<Figure>,
+    pub(crate) radial: Option<Figure>,
+    pub(crate) side: Option<Figure>,
+    pub(crate) bottom: Option<Figure>,
 }
 
 /// What is found of an operation, by its class.
 #[derive(Clone, Copy)]
 pub(crate) enum OperationPart {
     Drilling { dwell: Option<Figure> },
+    Facing(FaceCut),
+    Pocketing(PocketCut),
 }
 
 /// All that the walk of a workingstep finds: the feature and the operation, the placements of the security plane, of the
@@ -71,4 +131,39 @@ pub(crate) struct Walk {
     pub(crate) feature_part: FeaturePart,
     pub(crate) cut: Cut,
     pub(crate) operation_part: OperationPart,
+}
+
+/// The rectangle of a pocket.
+#[derive(Clone, Copy)]
+pub(crate) enum Area {
+    /// The sides of a rectangle that is centred on the placement.
+    Centred { length: Figure, width: Figure },
+    /// The rectangle whose corners these points are, from the placement.
+    Cornered(CornerPoints),
+}
+
+/// The sides of a rectangle.
+#[derive(Clone, Copy)]
+pub(crate) struct Sides {
+    pub(crate) left: i64,
+    pub(crate) low: i64,
+    pub(crate) right: i64,
+    pub(crate) high: i64,
+}
+
+/// What an operation makes of a feature.
+#[derive(Clone, Copy)]
+pub(crate) enum Job {
+    DrillHole {
+        diameter: Figure,
+        dwell: Option<Figure>,
+    },
+    MillFace {
+        face: FacePart,
+        cut: FaceCut,
+    },
+    MillPocket {
+        area: Area,
+        cut: PocketCut,
+    },
 }

@@ -1,9 +1,8 @@
-use Rattle.std.proofs.Common.{◌≡◌, ◌∙◌, sym, Ok}
-use Rattle.step_def.specs.Sound.{walk_keeps_ranges}
-use Rattle.step_def.specs.Faults.{walk_check}
+use Rattle.std.proofs.Common.{rules, arith, ◌≡◌, ◌∙◌, ap, sym, subst, refl, ℕ, ℤ, pos, ◌≤◌, FitsSigned, IsTrue, w64, to_z, of_z, Ok, Result}
+use Rattle.std.proofs.lemmas.Int.{to_z-of_z}
+use Rattle.step_def.specs.Faults.{job_of}
+use Rattle.step_def.specs.Sound.{facts_of}
 use Rattle.step_def.proofs.definition.checked.Goals as goal
 
-pub def_from-requires : goal.def_from-requires
-def_from-requires g c =
-    let sound : walk_check c.in_ok-walk.walk ≡ Ok tt = sym c.walk_check.ensures ∙ c.in_ok-walk_check.was in
-    walk_keeps_ranges c.in_ok-walk.walk sound
+pub shape_of-requires : goal.shape_of-requires
+shape_of-requires g c = facts_of c.in_ok-walk.walk c.in_ok-job.job (sym c.job_of.ensures ∙ c.in_ok-job.was)
