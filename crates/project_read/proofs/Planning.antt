@@ -3,7 +3,7 @@ use Rattle.std.proofs.Common.{◌≡◌, ℕ, Bool, true, false, List, Some, Non
 use Rattle.std.specs.Prelude.{Option, nat_eq}
 use Rattle.std.specs.List.{list_all, IsDistinct}
 use Rattle.entity_types.specs.declared.entity.Entity.{Entity}
-use Rattle.project_read.specs.Plan.{main_plan, can_be_defined, IsPlan}
+use Rattle.project_read.specs.Plan.{main_plan, is_workingstep, IsPlan}
 
 pub no_test : (b : Bool) → b ≡ true → b ≡ false → ⊥
 no_test b p q = let e : true ≡ false = sym p ∙ q in absurd (cc)
@@ -21,6 +21,6 @@ pub not_distinct : (entities : List Entity) (m : ℕ) (numbers : List ℕ) → m
 not_distinct entities m numbers is twice main steps plan =
     twice (subst (λ (ns : List ℕ). IsDistinct nat_eq ns) (same_steps main m steps numbers (sym plan.planned ∙ is)) plan.distinct)
 
-pub not_workingsteps : (entities : List Entity) (m : ℕ) (numbers : List ℕ) → main_plan entities ≡ Some (m, numbers) → list_all (can_be_defined entities) numbers ≡ false → (main : ℕ) (steps : List ℕ) → IsPlan entities main steps → ⊥
+pub not_workingsteps : (entities : List Entity) (m : ℕ) (numbers : List ℕ) → main_plan entities ≡ Some (m, numbers) → list_all (is_workingstep entities) numbers ≡ false → (main : ℕ) (steps : List ℕ) → IsPlan entities main steps → ⊥
 not_workingsteps entities m numbers is other main steps plan =
-    no_test (list_all (can_be_defined entities) numbers) (subst (λ (ns : List ℕ). list_all (can_be_defined entities) ns ≡ true) (same_steps main m steps numbers (sym plan.planned ∙ is)) plan.workingsteps) other
+    no_test (list_all (is_workingstep entities) numbers) (subst (λ (ns : List ℕ). list_all (is_workingstep entities) ns ≡ true) (same_steps main m steps numbers (sym plan.planned ∙ is)) plan.workingsteps) other

@@ -2,15 +2,13 @@
 use Rattle.std.specs.Prelude.{◌≡◌, ℕ, Bool, true, false, nat_eq, List, [], ◌∷◌, Option, Some, None, option_map, option_and_then}
 use Rattle.std.specs.Option.{option_map_or}
 use Rattle.std.specs.List.{list_all, IsDistinct}
-use Rattle.entity_types.specs.declared.class.Class.TheVariants.{MachiningWorkingstep}
 use Rattle.entity_types.specs.declared.entity.Entity.{Entity}
 use Rattle.entity_types.specs.declared.field.Field.{Field}
 use Rattle.entity_types.specs.declared.field.Field.TheVariants.{Absent, Ref, Refs}
 use Rattle.entity_types.specs.Entity.{field_of}
 use Rattle.project_store.specs.Entities.{entity_at}
 use Rattle.project_store.specs.Build.{projects_of}
-use Rattle.step_def.specs.Walk.{is_of}
-use Rattle.step_def.specs.Condition.{is_drilled_hole}
+use Rattle.step_def.specs.Condition as condition
 
 abbrev pub reference_of : Field → Option ℕ
 reference_of (Ref n) = Some n
@@ -36,14 +34,10 @@ main_plan entities = option_and_then (λ main. option_map (λ steps. (main, step
 
 -- n is a workingstep
 abbrev pub is_workingstep : List Entity → ℕ → Bool
-is_workingstep entities n = option_map_or (is_of MachiningWorkingstep) (entity_at entities n) false
-
--- n is a workingstep of which this stage of the program can say whether it has a definition
-abbrev pub can_be_defined : List Entity → ℕ → Bool
-can_be_defined entities n = is_drilled_hole (entity_at entities) n
+is_workingstep entities n = condition.is_workingstep (entity_at entities) n
 
 -- the main workplan has this number and names no channel, and its elements are these distinct workingsteps
 pub record IsPlan (entities : List Entity) (main : ℕ) (steps : List ℕ) : Type 0 where
   pub planned : main_plan entities ≡ Some (main, steps)
   pub distinct : IsDistinct nat_eq steps
-  pub workingsteps : list_all (can_be_defined entities) steps ≡ true
+  pub workingsteps : list_all (is_workingstep entities) steps ≡ true

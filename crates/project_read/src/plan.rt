@@ -3,7 +3,7 @@
 ghost use Rattle.std.specs.Prelude.{◌≡◌, option_map, option_and_then, IfOk, IfErr};
 ghost use Rattle.std.specs.List.{list_all};
 ghost use Rattle.entity_types.specs.Entity.{field_of};
-ghost use Rattle.project_read.specs.Plan.{reference_of, elements_of, main_plan, can_be_defined, IsPlan};
+ghost use Rattle.project_read.specs.Plan.{reference_of, elements_of, main_plan, is_workingstep, IsPlan};
 ghost use Rattle.project_read.specs.Reads.{HasNoPlan};
 
 use crate::reason::{ProjectErr, ProjectReason};
@@ -11,7 +11,7 @@ use entity_types::{Entity, Field};
 use nc_base::{Number, are_distinct};
 use project_store::{Entities, Store};
 use std::alloc::Global;
-use step_def::is_drilled_hole;
+use step_def::is_workingstep;
 
 /// The reference at a position.
 fn reference_at(entity: &Entity, position: u8) -> Option<Number>
@@ -43,18 +43,11 @@ fn main_plan(store: &Store) -> Option<(Number, &[Number])>
     Some((main, elements))
 }
 
-/// Whether `n` is a workingstep of which this stage of the program can say whether it has a definition.
-fn can_be_defined(store: &Store, n: Number) -> bool
-    ensures { result ≡ can_be_defined store.now n }
-{
-    is_drilled_hole(store, n)
-}
-
 /// Whether these are workingsteps.
 fn are_workingsteps(store: &Store, numbers: &[Number]) -> bool
-    ensures { result ≡ list_all (can_be_defined store.now) numbers.now }
+    ensures { result ≡ list_all (is_workingstep store.now) numbers.now }
 {
-    numbers.iter().all(|n| can_be_defined(store, *n))
+    numbers.iter().all(|n| is_workingstep(store, *n))
 }
 
 /// The main workplan's number and its elements, where it names no channel and they are distinct workingsteps.

@@ -2,7 +2,7 @@
 
 ghost use Rattle.std.specs.Prelude.{◌≡◌, true};
 ghost use Rattle.std.specs.List.{list_all};
-ghost use Rattle.project_read.specs.Plan.{can_be_defined};
+ghost use Rattle.project_read.specs.Plan.{is_workingstep};
 ghost use Rattle.project_read.specs.Reads.{AreSteps, lesser};
 
 use crate::reason::{ProjectErr, ProjectReason};
@@ -37,7 +37,7 @@ fn steps_counted<L: Ledger>(
     requires name { blank.name ≡ L.name }
     requires parts { blank.parts ≡ L.parts }
     requires one { blank.parts ≡ 1 }
-    requires workingsteps { list_all (can_be_defined store.now) numbers.now ≡ true }
+    requires workingsteps { list_all (is_workingstep store.now) numbers.now ≡ true }
     ensures { AreSteps store.now numbers.now result }
 {
     let (book, share) = blank.open::<L>();
@@ -58,7 +58,7 @@ fn steps_counted<L: Ledger>(
 
 /// The steps of these workingsteps with their definitions.
 pub fn steps_of(alloc: Global, store: &Store, numbers: &[Number]) -> Result<Vec<Step>, ProjectErr>
-    requires { list_all (can_be_defined store.now) numbers.now ≡ true }
+    requires { list_all (is_workingstep store.now) numbers.now ≡ true }
     ensures { AreSteps store.now numbers.now result }
 {
     steps_counted::<Brand>(alloc, store, numbers, Blank::new(1))

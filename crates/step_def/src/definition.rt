@@ -1,25 +1,23 @@
 //! The definition of a workingstep.
 
 ghost use Rattle.std.specs.Prelude.{◌≡◌, ℤ, ◌+◌, ◌/◌, ◌≤◌, unsigned_abs, pos, ◌+ℤ◌, ◌-ℤ◌, IsTrue, Ok};
-ghost use Rattle.entity_types.specs.declared.class.Class.TheVariants.{RoundHole};
 ghost use Rattle.std.specs.Int.{int_max, int_min, is_positive};
 ghost use Rattle.path_blocks.specs.Numbers.{numbers_of};
 ghost use Rattle.path_blocks.specs.PathPocket.{shrunk};
 ghost use Rattle.path_blocks.specs.Range.{is_within};
 ghost use Rattle.step_def.specs.Steps.{Gives};
-ghost use Rattle.step_def.specs.Walk.{is_of, is_drilling};
 ghost use Rattle.step_def.specs.Faults.{depth_of, is_sized, job_of};
 ghost use Rattle.step_def.specs.Numbers.{allowance_of, axial_of, few_blocks, has_room, inset_of, numbers_at, numbers_with, or_else, pocket_in, radial_of, rectangle_of, retract_height, shape_of, sign_of, step_of};
 ghost use Rattle.step_def.specs.Sides.{rectangle_with};
 ghost use Rattle.step_def.specs.Sound.{AreaFacts, CornersFacts, Facts, IfBetween, PlaceFacts, PocketFacts, RectangleWithin, SidesFacts};
-ghost use Rattle.step_def.specs.Condition.{is_drilled_hole, is_workingstep, refers_to};
+ghost use Rattle.step_def.specs.Condition.{is_workingstep};
 ghost use Rattle.step_def.specs.DefOf.{def_of};
 
 use crate::check::job_of;
 use crate::fault::DefFault;
 use crate::found::{Area, CornerPoints, FaceCut, Figure, Job, PocketCut, Sides, Walk};
-use crate::walk::{is_drilling, is_of, referred, walk_of};
-use entity_types::{Class, Entity};
+use crate::walk::{is_of, walk_of};
+use entity_types::Class;
 use nc_base::{Number, Steps};
 use path_blocks::{Def, Shape, block_count};
 use project_store::Entities;
@@ -321,39 +319,6 @@ pub fn is_workingstep<E: Entities>(from: &E, n: Number) -> bool
 {
     match from.get(n) {
         Some(step) => is_of(Class::MachiningWorkingstep, step),
-        None => false,
-    }
-}
-
-/// Whether `n` is a workingstep that drills a round hole, as `resolve` demands at this stage.
-pub fn is_drilled_hole<E: Entities>(from: &E, n: Number) -> bool
-    ensures exact { result ≡ is_drilled_hole (E.entities from.now) n }
-    ensures step { IsTrue result → IsTrue (is_workingstep (E.entities from.now) n) }
-{
-    match from.get(n) {
-        Some(step) => {
-            is_of(Class::MachiningWorkingstep, step)
-                && refers_to_hole(from, step)
-                && refers_to_drilling(from, step)
-        }
-        None => false,
-    }
-}
-
-fn refers_to_hole<E: Entities>(from: &E, step: &Entity) -> bool
-    ensures { result ≡ refers_to (E.entities from.now) (is_of RoundHole) step.now 3 }
-{
-    match referred(from, step, 3) {
-        Some((_, feature)) => is_of(Class::RoundHole, feature),
-        None => false,
-    }
-}
-
-fn refers_to_drilling<E: Entities>(from: &E, step: &Entity) -> bool
-    ensures { result ≡ refers_to (E.entities from.now) is_drilling step.now 4 }
-{
-    match referred(from, step, 4) {
-        Some((_, operation)) => is_drilling(operation),
         None => false,
     }
 }

@@ -8,7 +8,7 @@ mod fault;
 mod found;
 mod walk;
 
-pub use definition::{is_drilled_hole, is_workingstep, resolve};
+pub use definition::{is_workingstep, resolve};
 pub use fault::DefFault;
 
 #[cfg(test)]

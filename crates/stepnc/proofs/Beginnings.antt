@@ -5,7 +5,7 @@ use Rattle.std.proofs.lemmas.Bool.Decides.{nat_tests}
 use Rattle.std.specs.Str.{bytes_eq}
 use Rattle.std.proofs.lemmas.Bool.{eqb-true, eq-eqb}
 use Rattle.std.proofs.lemmas.List.{take_all}
-use Rattle.stepnc.specs.Words.{Form, begins, is_line, passes, AreFit, AreBadAt, is_name, is_limit, value_of, replay_line, help_line, version_line, IsReplay}
+use Rattle.stepnc.specs.Words.{Form, begins, is_line, passes, AreFit, AreBadAt, is_name, is_limit, is_step, value_of, replay_line, path_line, help_line, version_line, IsReplay, IsPath}
 
 pub no_test : (b : Bool) → b ≡ true → b ≡ false → ⊥
 no_test b p q = let e : true ≡ false = sym p ∙ q in absurd (cc)
@@ -75,31 +75,36 @@ all_fit ws forms n fit all whole =
     let begun : begins ws forms ≡ true = ap (λ (v : List (List ℕ)). begins v forms) (sym (take_all n ws (omega arith))) ∙ fit.begun in
     rw begun (eq-eqb (length ws) (length forms) (sym all ∙ whole))
 
-or3 : (a b c : Bool) → a ≡ false → b ≡ false → c ≡ false → (a || (b || (c || false))) ≡ false
-or3 a b c p q r = rw (p, q, r) refl
+none_of : (a b c d : Bool) → a ≡ false → b ≡ false → c ≡ false → d ≡ false → (a || (b || (c || (d || false)))) ≡ false
+none_of a b c d p q r t = rw (p, q, r, t) refl
 
-or_first : (a b c : Bool) → (a ≡ true) ⊎ ((b ≡ true) ⊎ (c ≡ true)) → (a || (b || (c || false))) ≡ true
-or_first true b c e = refl
-or_first false true c e = refl
-or_first false false true e = refl
-or_first false false false (inl e) = absurd (cc)
-or_first false false false (inr (inl e)) = absurd (cc)
-or_first false false false (inr (inr e)) = absurd (cc)
+some_of : (a b c d : Bool) → (a ≡ true) ⊎ ((b ≡ true) ⊎ ((c ≡ true) ⊎ (d ≡ true))) → (a || (b || (c || (d || false)))) ≡ true
+some_of true b c d e = refl
+some_of false true c d e = refl
+some_of false false true d e = refl
+some_of false false false true e = refl
+some_of false false false false (inl e) = absurd (cc)
+some_of false false false false (inr (inl e)) = absurd (cc)
+some_of false false false false (inr (inr (inl e))) = absurd (cc)
+some_of false false false false (inr (inr (inr e))) = absurd (cc)
 
--- the longest of the three fits is the place that is bad
-pub bad_at : (ws : List (List ℕ)) (a b c n : ℕ) → AreFit ws replay_line a → AreFit ws help_line b → AreFit ws version_line c
-    → is_line ws replay_line ≡ false → is_line ws help_line ≡ false → is_line ws version_line ≡ false
-    → a ≤ n → b ≤ n → c ≤ n → ((n ≡ a) ⊎ ((n ≡ b) ⊎ (n ≡ c))) → AreBadAt ws n
-bad_at ws a b c n fit_a fit_b fit_c no_a no_b no_c le_a le_b le_c which = record {
-  no_line = or3 (is_line ws replay_line) (is_line ws help_line) (is_line ws version_line) no_a no_b no_c;
-  within = elim which [ inl e ↦ omega (arith, fit_a.within) | inr later ↦ elim later [ inl e ↦ omega (arith, fit_b.within) | inr e ↦ omega (arith, fit_c.within) ] ];
-  begun = or_first (begins (take n ws) replay_line) (begins (take n ws) help_line) (begins (take n ws) version_line) (elim which [
+-- the longest of the four fits is the place that is bad
+pub bad_at : (ws : List (List ℕ)) (a b c d n : ℕ) → AreFit ws replay_line a → AreFit ws path_line b → AreFit ws help_line c → AreFit ws version_line d
+    → is_line ws replay_line ≡ false → is_line ws path_line ≡ false → is_line ws help_line ≡ false → is_line ws version_line ≡ false
+    → a ≤ n → b ≤ n → c ≤ n → d ≤ n → ((n ≡ a) ⊎ ((n ≡ b) ⊎ ((n ≡ c) ⊎ (n ≡ d)))) → AreBadAt ws n
+bad_at ws a b c d n fit_a fit_b fit_c fit_d no_a no_b no_c no_d le_a le_b le_c le_d which = record {
+  no_line = none_of (is_line ws replay_line) (is_line ws path_line) (is_line ws help_line) (is_line ws version_line) no_a no_b no_c no_d;
+  within = elim which [
+    | inl e ↦ omega (arith, fit_a.within)
+    | inr later ↦ elim later [ inl e ↦ omega (arith, fit_b.within) | inr last ↦ elim last [ inl e ↦ omega (arith, fit_c.within) | inr e ↦ omega (arith, fit_d.within) ] ]
+  ];
+  begun = some_of (begins (take n ws) replay_line) (begins (take n ws) path_line) (begins (take n ws) help_line) (begins (take n ws) version_line) (elim which [
     | inl e ↦ inl (rw e fit_a.begun)
-    | inr later ↦ inr (elim later [ inl e ↦ inl (rw e fit_b.begun) | inr e ↦ inr (rw e fit_c.begun) ])
+    | inr later ↦ inr (elim later [ inl e ↦ inl (rw e fit_b.begun) | inr last ↦ inr (elim last [ inl e ↦ inl (rw e fit_c.begun) | inr e ↦ inr (rw e fit_d.begun) ]) ])
   ]);
-  ended = λ lt. or3 (begins (take (n + 1) ws) replay_line) (begins (take (n + 1) ws) help_line) (begins (take (n + 1) ws) version_line)
-      (no_begin ws replay_line a (n + 1) fit_a (omega arith) (omega arith)) (no_begin ws help_line b (n + 1) fit_b (omega arith) (omega arith))
-      (no_begin ws version_line c (n + 1) fit_c (omega arith) (omega arith));
+  ended = λ lt. none_of (begins (take (n + 1) ws) replay_line) (begins (take (n + 1) ws) path_line) (begins (take (n + 1) ws) help_line) (begins (take (n + 1) ws) version_line)
+      (no_begin ws replay_line a (n + 1) fit_a (omega arith) (omega arith)) (no_begin ws path_line b (n + 1) fit_b (omega arith) (omega arith))
+      (no_begin ws help_line c (n + 1) fit_c (omega arith) (omega arith)) (no_begin ws version_line d (n + 1) fit_d (omega arith) (omega arith));
 }
 
 -- whether words that fit a line so far are the line
@@ -133,6 +138,22 @@ replay_shape (a ∷ b ∷ c ∷ d ∷ l ∷ x ∷ ws) e =
     let long : suc (suc (suc (suc (suc (suc (length ws)))))) ≡ 5 = eqb-true (suc (suc (suc (suc (suc (suc (length ws))))))) 5 (both (begins (a ∷ b ∷ c ∷ d ∷ l ∷ x ∷ ws) replay_line) (suc (suc (suc (suc (suc (suc (length ws)))))) == 5) e).1 in
     absurd (omega arith)
 
+-- what stands in the words of a path
+pub path_shape : (ws : List (List ℕ)) → is_line ws path_line ≡ true
+    → (name : List ℕ) × (last : List ℕ) × (slice_get ws 1 ≡ Some name) × (slice_get ws 2 ≡ Some last) × (3 ≤ length ws) × (is_step last ≡ true) × IsPath ws name (value_of last)
+path_shape [] e = absurd (cc)
+path_shape (a ∷ []) e = absurd (short (begins (a ∷ []) path_line) e)
+path_shape (a ∷ b ∷ []) e = absurd (short (begins (a ∷ b ∷ []) path_line) e)
+path_shape (a ∷ b ∷ n ∷ []) e =
+    let h = both (begins (a ∷ b ∷ n ∷ []) path_line) true e in
+    let h1 = both (bytes_eq (codes "path") a) (begins (b ∷ n ∷ []) (is_name ∷ is_step ∷ [])) h.0 in
+    let h2 = both (is_name b) (begins (n ∷ []) (is_step ∷ [])) h1.1 in
+    let h3 = both (is_step n) true h2.1 in
+    (b, n, refl, refl, omega arith, h3.0, (e, refl, refl))
+path_shape (a ∷ b ∷ n ∷ x ∷ ws) e =
+    let long : suc (suc (suc (suc (length ws)))) ≡ 3 = eqb-true (suc (suc (suc (suc (length ws))))) 3 (both (begins (a ∷ b ∷ n ∷ x ∷ ws) path_line) (suc (suc (suc (suc (length ws)))) == 3) e).1 in
+    absurd (omega arith)
+
 pub whole_is_line : (ws : List (List ℕ)) (forms : List Form) (n : ℕ) (r : Bool) → AreFit ws forms n → r ≡ ((n == length ws) && (n == length forms)) → (b : Bool) → r ≡ b → is_line ws forms ≡ b
 whole_is_line ws forms n r fit e b is = sym (line_where_fit ws forms n r fit e) ∙ is
 
@@ -142,47 +163,61 @@ some_word w = Some w
 pub some_last : (a b : List ℕ) → some_word a ≡ some_word b → a ≡ b
 some_last a b e = cc
 
-pub some_limit : (w : List ℕ) (o : Option ℕ) → is_limit w ≡ true → MatchOption o (is_limit w ≡ false) (λ n. (is_limit w ≡ true) × (n ≡ value_of w)) → IsSome o
-some_limit w None e said = absurd (no_test (is_limit w) e said)
-some_limit w (Some n) e said = search rules
+pub some_count : (test : Bool) (v : ℕ) (o : Option ℕ) → test ≡ true → MatchOption o (test ≡ false) (λ n. (test ≡ true) × (n ≡ v)) → IsSome o
+some_count test v None e said = absurd (no_test test e said)
+some_count test v (Some n) e said = search rules
 
-pub limit_is : (w : List ℕ) (o : Option ℕ) (n : ℕ) → o ≡ Some n → MatchOption o (is_limit w ≡ false) (λ n. (is_limit w ≡ true) × (n ≡ value_of w)) → n ≡ value_of w
-limit_is w None n e said = absurd (cc)
-limit_is w (Some m) n e said = let same : m ≡ n = cc in sym same ∙ said.1
+pub count_is : (test : Bool) (v : ℕ) (o : Option ℕ) (n : ℕ) → o ≡ Some n → MatchOption o (test ≡ false) (λ n. (test ≡ true) × (n ≡ v)) → n ≡ v
+count_is test v None n e said = absurd (cc)
+count_is test v (Some m) n e said = let same : m ≡ n = cc in sym same ∙ said.1
 
 -- the greatest of two numbers is one of them
 max_is : (a b m : ℕ) → m ≡ max a b → (m ≡ a) ⊎ (m ≡ b)
 max_is a b m e = elim (tested (nat_le a b)) [ inl t ↦ inr (grind (arith, nat_tests)) | inr f ↦ inl (grind (arith, nat_tests)) ]
 
--- the greatest of three numbers is one of them
-pub greatest : (a b c m n : ℕ) → m ≡ max a b → n ≡ max m c → (a ≤ n) × (b ≤ n) × (c ≤ n) × ((n ≡ a) ⊎ ((n ≡ b) ⊎ (n ≡ c)))
-greatest a b c m n p q =
-    (omega arith, omega arith, omega arith, elim (max_is m c n q) [ inl e ↦ elim (max_is a b m p) [ inl f ↦ inl (e ∙ f) | inr f ↦ inr (inl (e ∙ f)) ] | inr e ↦ inr (inr e) ])
+-- the greatest of four numbers is one of them
+pub greatest : (a b c d m n o : ℕ) → m ≡ max a b → n ≡ max m c → o ≡ max n d → (a ≤ o) × (b ≤ o) × (c ≤ o) × (d ≤ o) × ((o ≡ a) ⊎ ((o ≡ b) ⊎ ((o ≡ c) ⊎ (o ≡ d))))
+greatest a b c d m n o p q r = (
+  omega arith,
+  omega arith,
+  omega arith,
+  omega arith,
+  elim (max_is n d o r) [
+    | inl e ↦ elim (max_is m c n q) [ inl f ↦ elim (max_is a b m p) [ inl g ↦ inl (e ∙ f ∙ g) | inr g ↦ inr (inl (e ∙ f ∙ g)) ] | inr f ↦ inr (inr (inl (e ∙ f))) ]
+    | inr e ↦ inr (inr (inr e))
+  ],
+)
 
 begins_short : (ws : List (List ℕ)) (forms : List Form) → begins ws forms ≡ true → length ws ≤ length forms
 begins_short [] forms e = omega arith
 begins_short (w ∷ ws) [] e = absurd (cc)
 begins_short (w ∷ ws) (form ∷ forms) e = let le = begins_short ws forms (both (form w) (begins ws forms) e).1 in omega arith
 
-one_of : (a b c : Bool) → (a || (b || (c || false))) ≡ true → (a ≡ true) ⊎ ((b ≡ true) ⊎ (c ≡ true))
-one_of true b c e = inl refl
-one_of false true c e = inr (inl refl)
-one_of false false true e = inr (inr refl)
-one_of false false false e = absurd (cc)
+one_of : (a b c d : Bool) → (a || (b || (c || (d || false)))) ≡ true → (a ≡ true) ⊎ ((b ≡ true) ⊎ ((c ≡ true) ⊎ (d ≡ true)))
+one_of true b c d e = inl refl
+one_of false true c d e = inr (inl refl)
+one_of false false true d e = inr (inr (inl refl))
+one_of false false false true e = inr (inr (inr refl))
+one_of false false false false e = absurd (cc)
 
 take_length : (ws : List (List ℕ)) (i : ℕ) → i ≤ length ws → length (take i ws) ≡ i
 take_length ws zero le = refl
 take_length [] (suc i) le = absurd (omega arith)
 take_length (w ∷ ws) (suc i) le = ap suc (take_length ws i (omega arith))
 
+few : (ws : List (List ℕ)) (forms : List Form) (i : ℕ) → i ≤ length ws → length forms ≤ 5 → begins (take i ws) forms ≡ true → i ≤ 5
+few ws forms i le five e =
+    let all = begins_short (take i ws) forms e in
+    let long = take_length ws i le in
+    omega arith
+
 -- no line has more than five words
 pub bad_place : (ws : List (List ℕ)) (i : ℕ) → AreBadAt ws i → i ≤ 5
 bad_place ws i bad =
-    let long = take_length ws i bad.within in
-    elim (one_of (begins (take i ws) replay_line) (begins (take i ws) help_line) (begins (take i ws) version_line) bad.begun) [
-      | inl e ↦ (let le = begins_short (take i ws) replay_line e in omega arith)
+    elim (one_of (begins (take i ws) replay_line) (begins (take i ws) path_line) (begins (take i ws) help_line) (begins (take i ws) version_line) bad.begun) [
+      | inl e ↦ few ws replay_line i bad.within (omega arith) e
       | inr later ↦ elim later [
-        | inl e ↦ (let le = begins_short (take i ws) help_line e in omega arith)
-        | inr e ↦ (let le = begins_short (take i ws) version_line e in omega arith)
+        | inl e ↦ few ws path_line i bad.within (omega arith) e
+        | inr last ↦ elim last [ inl e ↦ few ws help_line i bad.within (omega arith) e | inr e ↦ few ws version_line i bad.within (omega arith) e ]
       ]
     ]

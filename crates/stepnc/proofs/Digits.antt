@@ -26,12 +26,12 @@ value_more xs i lt = fold_more (λ n b. n * 10 + (b - 48)) 0 xs i 0 lt
 pub bound_more : (v i d : ℕ) → v < 10 ^ i → d ≤ 9 → v * 10 + d < 10 ^ (i + 1)
 bound_more v i d lt le = rw (add-one, pow-suc 10 i) (omega arith)
 
-pub bound_few : (v i : ℕ) → v < 10 ^ i → i < 7 → v < 1000000
-bound_few v i lt few = let most : 10 ^ i ≤ 10 ^ 6 = pow-le-pow_right {n = 10} (omega arith) {i = i} {j = 6} (omega arith) in omega arith
+pub bound_few : (v i : ℕ) → v < 10 ^ i → i < 10 → v < 1000000000
+bound_few v i lt few = let most : 10 ^ i ≤ 10 ^ 9 = pow-le-pow_right {n = 10} (omega arith) {i = i} {j = 9} (omega arith) in omega arith
 
-pub number_parts : (w : List ℕ) → is_number w ≡ true → (length w ≤ 7) × (list_all is_digit w ≡ true)
-number_parts w e =
-    let h = both (nat_lt 0 (length w) && nat_le (length w) 7 && list_all is_digit w) (not (has_leading_zero w)) e in
-    let k = both (nat_lt 0 (length w) && nat_le (length w) 7) (list_all is_digit w) h.0 in
-    let l = both (nat_lt 0 (length w)) (nat_le (length w) 7) k.0 in
+pub number_parts : (most : ℕ) (w : List ℕ) → is_number most w ≡ true → (length w ≤ most) × (list_all is_digit w ≡ true)
+number_parts most w e =
+    let h = both (nat_lt 0 (length w) && nat_le (length w) most && list_all is_digit w) (not (has_leading_zero w)) e in
+    let k = both (nat_lt 0 (length w) && nat_le (length w) most) (list_all is_digit w) h.0 in
+    let l = both (nat_lt 0 (length w)) (nat_le (length w) most) k.0 in
     (grind (arith, nat_tests), k.1)

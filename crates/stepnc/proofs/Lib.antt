@@ -1,9 +1,5 @@
 pub mod Digits
 pub mod Beginnings
-pub mod Folds
-pub mod Typing
-pub mod SameEntity
-pub mod Holding
-pub mod Stepping
 pub mod Running
-pub mod Answering
+pub mod Showing
+pub mod Saying

@@ -1,6 +1,6 @@
 -- A project's run.
-use Rattle.std.proofs.Common.{◌≡◌, ℕ, ◌≤◌, false, List, [], ◌∷◌, length, Option, Some, Result, refl, sym, ap, subst, ◌∙◌, inl, inr}
-use Rattle.std.specs.Prelude.{nat_eq, ◌==◌, option_map}
+use Rattle.std.proofs.Common.{◌≡◌, ℕ, ◌≤◌, false, List, [], ◌∷◌, length, Option, Some, Result, Ok, Err, refl, sym, ap, subst, ◌∙◌, inl, inr}
+use Rattle.std.specs.Prelude.{nat_eq, ◌==◌, option_map, IfOk}
 use Rattle.std.specs.List.{IsDistinct, AllByRecursion}
 use Rattle.std.specs.Result.{result_ok}
 use Rattle.std.proofs.lemmas.Bool.{eqb-true, eq-eqb}
@@ -16,9 +16,9 @@ use Rattle.run_core.specs.Legal.{Legal}
 use Rattle.run_core.specs.Endings.{EndsSo}
 use Rattle.run_core.specs.PlainRun.{numbers_of, works, GivePaths}
 use Rattle.step_def.specs.declared.fault.DefFault.{DefFault}
-use Rattle.stepnc.specs.Project.{Project, elements, tree_of_project, paths_in}
-use Rattle.stepnc.specs.Projects.{HaveDefs}
-use Rattle.stepnc.specs.Answer.{IsRun}
+use Rattle.project_read.specs.Holds.{Project}
+use Rattle.project_read.specs.Reads.{HaveDefs}
+use Rattle.stepnc.specs.Run.{elements, tree_of_project, paths_in, IsRun}
 use Rattle.stepnc.proofs.Beginnings.{no_test, tested}
 
 other : (m n : ℕ) → nat_eq n m ≡ false → (m == n) ≡ false
@@ -54,3 +54,10 @@ is_run p ss limit t ending same have legal ends within =
       ends = subst (λ (e : Exec). EndsSo e t limit ending) tree (ends (Some p.main));
       within = within;
     }
+
+-- where the plain run has a log, it is a run of the project
+pub runs : {E : Type 0} (p : Project) (ss : List Step) (limit : ℕ) (r : Result (List Entry × Ending) E) → p.steps ≡ numbers_of ss → HaveDefs p.entities ss
+    → IfOk r (λ ran. (paths : ℕ → Option (List Block)) (main : Option ℕ) → GivePaths paths ss → Legal paths (Plan main (works ss)) ran.0)
+    → IfOk r (λ ran. (main : Option ℕ) → EndsSo (Plan main (works ss)) ran.0 limit ran.1) → IfOk r (λ ran. length ran.0 ≤ limit) → IfOk r (λ ran. IsRun p limit ran.0 ran.1)
+runs p ss limit (Ok ran) same have legal ends within = is_run p ss limit ran.0 ran.1 same have legal ends within
+runs p ss limit (Err e) same have legal ends within = tt

@@ -6,23 +6,17 @@ use Rattle.stepnc.specs.declared.answer.Stop.{Stop}
 use Rattle.stepnc.specs.declared.answer.Stop.TheVariants as stops
 use Rattle.stepnc.specs.declared.status.Status.{Status}
 use Rattle.stepnc.specs.declared.status.Status.TheVariants.{ReadFault, WriteFault, NoMemory}
-use Rattle.stepnc.specs.Words.{IsReplay}
-use Rattle.stepnc.specs.Answer.{Replays, IsAnswer, answer_text, answer_status}
+use Rattle.stepnc.specs.Words.{NamesProject}
+use Rattle.stepnc.specs.Answer.{IsAnswer, answer_text, answer_status}
 
 -- the words name a project file to read, and its count of faults rose
 abbrev pub FailedToRead : List (List ℕ) → (List ℕ → ℕ) → (List ℕ → ℕ) → Type 0
-FailedToRead ws before now = (name : List ℕ) × (limit : ℕ) × IsReplay ws name limit × Rose (before name) (now name)
+FailedToRead ws before now = (name : List ℕ) × NamesProject ws name × Rose (before name) (now name)
 
 -- why there is no answer: a read failed, or memory ran out
 abbrev pub IsStop : List (List ℕ) → (List ℕ → ℕ) → (List ℕ → ℕ) → Stop → Type 0
 IsStop ws before now stops.ReadFault = FailedToRead ws before now
 IsStop ws before now stops.NoMemory = Unit {0}
-
--- what comes of a replay of a file, or why nothing does: the count of the file's faults rose, or memory ran out
-abbrev pub ReplaysOrStops : Option (List ℕ) → ℕ → ℕ → ℕ → Result Answer Stop → Type 0
-ReplaysOrStops held before now limit (Ok a) = Replays held limit a
-ReplaysOrStops held before now limit (Err stops.ReadFault) = Rose before now
-ReplaysOrStops held before now limit (Err stops.NoMemory) = Unit {0}
 
 -- the answer to the words, or why there is none
 abbrev pub AnswersOrStops : List (List ℕ) → (List ℕ → Option (List ℕ)) → (List ℕ → ℕ) → (List ℕ → ℕ) → Result Answer Stop → Type 0

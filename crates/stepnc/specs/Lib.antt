@@ -1,10 +1,9 @@
 pub mod Words
 pub mod Commands
-pub mod Narrow
-pub mod Project
-pub mod Errors
-pub mod Projects
 pub mod Texts
+pub mod Refusal
 pub mod Codes
+pub mod Run
 pub mod Answer
+pub mod Sources
 pub mod Answered

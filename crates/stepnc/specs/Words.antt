@@ -1,5 +1,5 @@
 -- The words of a command, after this profile.
-use Rattle.std.specs.Prelude.{◌≡◌, ℕ, ◌+◌, ◌-◌, ◌*◌, ◌<◌, ◌≤◌, Bool, true, false, not, ◌&&◌, ◌==◌, nat_lt, nat_le, List, [], ◌∷◌, length, take, codes, fold, Option, Some, None}
+use Rattle.std.specs.Prelude.{◌≡◌, ◌⊎◌, ℕ, ◌+◌, ◌-◌, ◌*◌, ◌<◌, ◌≤◌, Bool, true, false, not, ◌&&◌, ◌==◌, nat_lt, nat_le, List, [], ◌∷◌, length, take, codes, fold, Option, Some, None}
 use Rattle.std.specs.List.{list_any, list_all}
 use Rattle.std.specs.Str.{bytes_eq}
 
@@ -20,13 +20,21 @@ has_leading_zero [] = false
 has_leading_zero (b ∷ []) = false
 has_leading_zero (b ∷ c ∷ bs) = b == 48
 
--- a number: 1 to 7 digits without a leading zero, 0 alone allowed
-abbrev pub is_number : Form
-is_number w = nat_lt 0 (length w) && nat_le (length w) 7 && list_all is_digit w && not (has_leading_zero w)
+-- a number: 1 to `most` digits without a leading zero, 0 alone allowed
+abbrev pub is_number : ℕ → Form
+is_number most w = nat_lt 0 (length w) && nat_le (length w) most && list_all is_digit w && not (has_leading_zero w)
+
+-- a number from 1 to `most`, in at most so many digits
+abbrev pub is_count : ℕ → ℕ → Form
+is_count digits most w = is_number digits w && nat_le 1 (value_of w) && nat_le (value_of w) most
 
 -- a limit of entries: 1 to 2,000,000
 abbrev pub is_limit : Form
-is_limit w = is_number w && nat_le 1 (value_of w) && nat_le (value_of w) 2000000
+is_limit w = is_count 7 2000000 w
+
+-- the number of an instance: 1 to 2,147,483,647
+abbrev pub is_step : Form
+is_step w = is_count 10 2147483647 w
 
 -- a file name: at least one byte
 abbrev pub is_name : Form
@@ -36,6 +44,9 @@ is_name w = nat_lt 0 (length w)
 abbrev pub replay_line : List Form
 replay_line = bytes_eq (codes "replay") ∷ is_name ∷ bytes_eq (codes "-") ∷ bytes_eq (codes "-") ∷ is_limit ∷ []
 
+abbrev pub path_line : List Form
+path_line = bytes_eq (codes "path") ∷ is_name ∷ is_step ∷ []
+
 abbrev pub help_line : List Form
 help_line = bytes_eq (codes "--help") ∷ []
 
@@ -43,7 +54,7 @@ abbrev pub version_line : List Form
 version_line = bytes_eq (codes "--version") ∷ []
 
 abbrev pub table : List (List Form)
-table = replay_line ∷ help_line ∷ version_line ∷ []
+table = replay_line ∷ path_line ∷ help_line ∷ version_line ∷ []
 
 -- the words begin the line
 abbrev pub begins : List (List ℕ) → List Form → Bool
@@ -76,9 +87,18 @@ IsReplay (w0 ∷ project ∷ w2 ∷ w3 ∷ w4 ∷ []) name limit =
     (is_line (w0 ∷ project ∷ w2 ∷ w3 ∷ w4 ∷ []) replay_line ≡ true) × (project ≡ name) × (value_of w4 ≡ limit)
 IsReplay _ name limit = ⊥
 
--- the words name no file to read: they ask for no replay
+-- the words are those of the path of this workingstep of this project file
+abbrev pub IsPath : List (List ℕ) → List ℕ → ℕ → Type 0
+IsPath (w0 ∷ project ∷ w2 ∷ []) name n = (is_line (w0 ∷ project ∷ w2 ∷ []) path_line ≡ true) × (project ≡ name) × (value_of w2 ≡ n)
+IsPath _ name n = ⊥
+
+-- the words name this project file to read
+abbrev pub NamesProject : List (List ℕ) → List ℕ → Type 0
+NamesProject ws name = ((limit : ℕ) × IsReplay ws name limit) ⊎ ((n : ℕ) × IsPath ws name n)
+
+-- the words name no file to read
 abbrev pub NameNoFile : List (List ℕ) → Type 0
-NameNoFile ws = (name : List ℕ) (limit : ℕ) → IsReplay ws name limit → ⊥
+NameNoFile ws = (name : List ℕ) → NamesProject ws name → ⊥
 
 -- the word is of the form that stands there, if one does
 abbrev pub passes : Option Form → List ℕ → Bool

@@ -3,13 +3,18 @@
 ghost use Rattle.std.specs.Prelude.{◌≡◌, ◌+◌, ◌≤◌, ◌<◌, ◌^◌, ◌++◌, length, OnOk, OnErr};
 ghost use Rattle.arrayvec.specs.ArrayVec.{array_vec_len};
 ghost use Rattle.nc_outside.specs.Outside.{Rose, Appends, AppendsFront};
+ghost use Rattle.path_blocks.specs.Path.{path_of};
+ghost use Rattle.run_log.specs.BlocksText.{blocks_text};
 ghost use Rattle.run_log.specs.LogText.{text_of};
 ghost use Rattle.stepnc.specs.Texts.{bad_words_line, help_text, version_text};
 ghost use Rattle.stepnc.specs.Answer.{IsCountable, answer_text, answer_status};
 
-use crate::status::{ProjectReason, Status};
+use crate::refusal::refusal_line;
+use crate::status::Status;
 use nc_base::{Line, put, put_number};
 use nc_outside::{Failed, Sink, put_all};
+use path_blocks::Plan;
+use project_read::ProjectReason;
 use run_log::{Ending, Log};
 
 /// What the program answers, before it is written.
@@ -21,10 +26,12 @@ pub enum Answer {
     Help,
     /// Which program this is.
     Version,
-    /// The file holds no project that can be run.
-    NotBuilt,
+    /// The project is refused.
+    Refused(ProjectReason),
     /// The project ran so.
     Ran(Log, Ending),
+    /// The workingstep has this path.
+    Shown(Plan),
 }
 
 /// Why there is no answer.
@@ -38,7 +45,7 @@ pub enum Stop {
 
 /// Which commands there are.
 const HELP: &[u8] =
-    b"stepnc runs a STEP-NC project and writes its run log.\n\n  stepnc replay PROJECT - - LIMIT\n      runs the project in the file PROJECT, up to LIMIT entries (1 to 2000000)\n  stepnc --help\n      writes this text\n  stepnc --version\n      writes the version\n";
+    b"stepnc runs a STEP-NC project and writes its run log.\n\n  stepnc replay PROJECT - - LIMIT\n      runs the project in the file PROJECT, up to LIMIT entries (1 to 2000000)\n  stepnc path PROJECT STEP\n      writes the path of workingstep STEP, one block a line\n  stepnc --help\n      writes this text\n  stepnc --version\n      writes the version\n\nFor example: stepnc replay examples/drilled_hole.stp - - 100\n\nExit status: 0 done or written, 2 stopped at the limit, 3 bad words,\n4 project refused, 7 project file not read, 8 output not taken,\n9 out of memory.\n";
 
 /// Which program this is.
 const VERSION: &[u8] = b"stepnc 0.1.0\n";
@@ -65,6 +72,16 @@ fn put_log<S: Sink>(log: &Log, ending: Ending, sink: &mut S) -> Result<(), Faile
     run_log::write(log.as_slice(), ending, sink).map_err(|_| Failed)
 }
 
+/// Writes the blocks of a path.
+fn put_path<S: Sink>(plan: &Plan, sink: &mut S) -> Result<(), Failed>
+    ensures counted { S.faults sink.old ≤ S.faults sink.new }
+    ensures ok { OnOk result (Appends (S.taken sink.old) (S.taken sink.new) (blocks_text (path_of plan.now))) }
+    ensures failed { OnErr result (Rose (S.faults sink.old) (S.faults sink.new)) }
+    ensures failed_takes_front { OnErr result (AppendsFront (S.taken sink.old) (S.taken sink.new) (blocks_text (path_of plan.now))) }
+{
+    run_log::write_blocks(plan.blocks(), sink).map_err(|_| Failed)
+}
+
 impl Answer {
     /// The status of the answer, once it is written.
     pub fn status(&self) -> Status
@@ -72,8 +89,8 @@ impl Answer {
     {
         match self {
             Answer::BadWords(place) => Status::BadWords(*place),
-            Answer::Help | Answer::Version => Status::Written,
-            Answer::NotBuilt => Status::ProjectRefused(ProjectReason::NotBuilt),
+            Answer::Help | Answer::Version | Answer::Shown(_) => Status::Written,
+            Answer::Refused(reason) => Status::ProjectRefused(*reason),
             Answer::Ran(_, Ending::Done) => Status::Done,
             Answer::Ran(_, Ending::Limit) => Status::RunLimit,
         }
@@ -91,8 +108,9 @@ impl Answer {
             Answer::BadWords(place) => put_all(sink, bad_words(*place).as_slice()),
             Answer::Help => put_all(sink, HELP),
             Answer::Version => put_all(sink, VERSION),
-            Answer::NotBuilt => put_all(sink, b"refused NotBuilt\n"),
+            Answer::Refused(reason) => put_all(sink, refusal_line(*reason).as_slice()),
             Answer::Ran(log, ending) => put_log(log, *ending, sink),
+            Answer::Shown(plan) => put_path(plan, sink),
         }
     }
 }

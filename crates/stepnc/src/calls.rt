@@ -6,6 +6,7 @@ ghost use Rattle.stepnc.specs.Answered.{AnswersOrStops, Answered, IsPut};
 ghost use Rattle.stepnc.specs.Words.{NameNoFile};
 
 use crate::answer::{Answer, Stop};
+use crate::path::show_file;
 use crate::replay::replay_file;
 use crate::status::Status;
 use crate::words::{Command, command_of};
@@ -17,12 +18,13 @@ use std::alloc::Global;
 fn answer_to<F: Files>(alloc: Global, words: &[NcText], files: &mut F) -> Result<Answer, Stop>
     ensures kept { (n : List ℕ) → F.holds files.new n ≡ F.holds files.old n }
     ensures counted { (n : List ℕ) → F.faults files.old n ≤ F.faults files.new n }
-    ensures untouched { NameNoFile words.now → files.new ≡ files.old }
     ensures countable { IfOk result IsCountable }
+    ensures untouched { NameNoFile words.now → files.new ≡ files.old }
     ensures answer { AnswersOrStops words.now (F.holds files.old) (F.faults files.old) (F.faults files.new) result }
 {
     match command_of(words) {
         Ok(Command::Replay { limit }) => replay_file(alloc, &words[1], limit, files),
+        Ok(Command::Path { step }) => show_file(alloc, &words[1], step, files),
         Ok(Command::Help) => Ok(Answer::Help),
         Ok(Command::Version) => Ok(Answer::Version),
         Err(place) => Ok(Answer::BadWords(place as u32)),
@@ -51,9 +53,9 @@ pub fn quick<F: Files, S: Sink>(
 ) -> Status
     ensures kept { (n : List ℕ) → F.holds files.new n ≡ F.holds files.old n }
     ensures counted { (n : List ℕ) → F.faults files.old n ≤ F.faults files.new n }
+    ensures sink_counted { S.faults sink.old ≤ S.faults sink.new }
     // Where the words name no file to read, none is read.
     ensures untouched { NameNoFile words.now → files.new ≡ files.old }
-    ensures sink_counted { S.faults sink.old ≤ S.faults sink.new }
     ensures answered { Answered words.now (F.holds files.old) (F.faults files.old) (F.faults files.new) (S.taken sink.old) (S.taken sink.new) (S.faults sink.old) (S.faults sink.new) result }
 {
     match answer_to(alloc, words, files) {
@@ -73,9 +75,9 @@ pub fn top<R: AllocGlobal, F: Files, S: Sink, G: Gate>(
 ) -> Status
     ensures kept { (n : List ℕ) → F.holds files.new n ≡ F.holds files.old n }
     ensures counted { (n : List ℕ) → F.faults files.old n ≤ F.faults files.new n }
+    ensures sink_counted { S.faults sink.old ≤ S.faults sink.new }
     // Where the words name no file to read, none is read.
     ensures untouched { NameNoFile words.now → files.new ≡ files.old }
-    ensures sink_counted { S.faults sink.old ≤ S.faults sink.new }
     ensures answered { Answered words.now (F.holds files.old) (F.faults files.old) (F.faults files.new) (S.taken sink.old) (S.taken sink.new) (S.faults sink.old) (S.faults sink.new) result }
 {
     quick(rt.alloc(), words, files, sink)

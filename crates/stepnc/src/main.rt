@@ -3,9 +3,10 @@
 
 mod answer;
 mod calls;
-mod narrow;
-mod project;
+mod path;
+mod refusal;
 mod replay;
+mod source;
 mod status;
 mod words;
 

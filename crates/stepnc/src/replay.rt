@@ -1,45 +1,29 @@
 //! The replay of a project.
 
-ghost use Rattle.std.specs.Prelude.{◌≡◌, ℕ, ◌≤◌, List, length, Some, IfOk};
-ghost use Rattle.nc_outside.specs.Outside.{Rose};
-ghost use Rattle.stepnc.specs.Projects.{ReadsBytes};
-ghost use Rattle.stepnc.specs.Answer.{Replays, IsCountable};
-ghost use Rattle.stepnc.specs.Answered.{ReplaysOrStops};
+ghost use Rattle.std.specs.Prelude.{◌≡◌, ℕ, ◌≤◌, ◌<◌, ◌^◌, List, length, nat_eq, IfOk};
+ghost use Rattle.std.specs.List.{IsDistinct};
+ghost use Rattle.project_read.specs.Reads.{model_of, HaveDefs};
+ghost use Rattle.stepnc.specs.Answer.{IsCountable};
+ghost use Rattle.stepnc.specs.Run.{IsRun};
+ghost use Rattle.stepnc.specs.Sources.{ReplaysOrStops};
 
 use crate::answer::{Answer, Stop};
-use crate::project::{Project, ProjectErr, project_of};
+use crate::source::{Unheld, project_at};
 use nc_base::{NcText, NoMemory};
-use nc_outside::{FileErr, Files};
-use p21_parse::read;
+use nc_outside::Files;
+use project_read::Project;
 use run_core::run;
+use run_log::{Ending, Log};
 use std::alloc::Global;
 
-/// How many bytes a project file has at most.
-const LONGEST_FILE: u32 = 16_777_216;
-
-/// The project in a file's bytes.
-fn project_in(alloc: Global, bytes: &[u8]) -> Result<Project, ProjectErr>
-    requires { length bytes.now ≤ 16777216 }
-    ensures { ReadsBytes bytes.now result }
+/// Runs a project up to `limit` entries.
+fn run_of(alloc: Global, project: &Project, limit: u32) -> Result<(Log, Ending), NoMemory>
+    requires distinct { IsDistinct nat_eq (model_of project.now).steps }
+    requires defined { HaveDefs project.now.store project.now.steps.items }
+    ensures run { IfOk result (λ ran. IsRun (model_of project.now) limit ran.0 ran.1) }
+    ensures countable { IfOk result (λ ran. length ran.0 < 2 ^ 32) }
 {
-    let exchange = read(alloc, bytes)?;
-    project_of(alloc, &exchange)
-}
-
-/// Runs the project in a file's bytes.
-fn replay_bytes(alloc: Global, bytes: &[u8], limit: u32) -> Result<Answer, NoMemory>
-    requires { length bytes.now ≤ 16777216 }
-    ensures replays { IfOk result (Replays (Some bytes.now) limit) }
-    ensures countable { IfOk result IsCountable }
-{
-    match project_in(alloc, bytes) {
-        Ok(project) => {
-            let (log, ending) = run(alloc, project.steps.as_slice(), limit)?;
-            Ok(Answer::Ran(log, ending))
-        }
-        Err(ProjectErr::NotBuilt) => Ok(Answer::NotBuilt),
-        Err(ProjectErr::NoMemory) => Err(NoMemory),
-    }
+    run(alloc, project.steps.as_slice(), limit)
 }
 
 /// Reads a project file and runs its project.
@@ -54,14 +38,12 @@ pub fn replay_file<F: Files>(
     ensures countable { IfOk result IsCountable }
     ensures answer { ReplaysOrStops (F.holds files.old name.now) (F.faults files.old name.now) (F.faults files.new name.now) limit result }
 {
-    let mut room = Vec::new(alloc);
-    match files.read(name, &mut room, LONGEST_FILE) {
-        Ok(()) => match replay_bytes(alloc, room.as_slice(), limit) {
-            Ok(answer) => Ok(answer),
+    match project_at(alloc, name, files) {
+        Ok(project) => match run_of(alloc, &project, limit) {
+            Ok((log, ending)) => Ok(Answer::Ran(log, ending)),
             Err(NoMemory) => Err(Stop::NoMemory),
         },
-        Err(FileErr::TooLong) => Ok(Answer::NotBuilt),
-        Err(FileErr::Failed) => Err(Stop::ReadFault),
-        Err(FileErr::NoMemory) => Err(Stop::NoMemory),
+        Err(Unheld::Refused(reason)) => Ok(Answer::Refused(reason)),
+        Err(Unheld::Stopped(stop)) => Err(stop),
     }
 }

@@ -3,12 +3,7 @@
 ghost use Rattle.std.specs.Prelude.{◌≡◌};
 ghost use Rattle.stepnc.specs.Codes.{code_of};
 
-/// Why a project is refused.
-#[derive(Clone, Copy, Debug, PartialEq, Eq)]
-pub enum ProjectReason {
-    /// The file holds no project that this stage of the program can run.
-    NotBuilt,
-}
+use project_read::ProjectReason;
 
 /// How a command ended.
 #[derive(Clone, Copy, Debug, PartialEq, Eq)]

@@ -2,16 +2,18 @@
 
 ghost use Rattle.std.specs.Prelude.{◌≡◌, ◌+◌, ◌*◌, ◌-◌, ◌<◌, ◌≤◌, ◌^◌, ℕ, List, [], ◌∷◌, length, slice_get, true, false, MatchOption, Some, Ok, ◌&&◌, ◌==◌};
 ghost use Rattle.std.specs.List.{list_all};
-ghost use Rattle.stepnc.specs.Words.{is_digit, is_number, is_limit, is_name, has_leading_zero, value_of, passes, is_line, replay_line, AreFit};
+ghost use Rattle.stepnc.specs.Words.{is_digit, is_number, is_count, is_limit, is_step, is_name, has_leading_zero, value_of, passes, is_line, replay_line, path_line, AreFit};
 ghost use Rattle.stepnc.specs.Commands.{forms_of, Ask};
 
-use nc_base::NcText;
+use nc_base::{NcText, Number};
 
 /// What the words of a command ask for.
 #[derive(Clone, Copy, Debug, PartialEq, Eq)]
 pub enum Command {
     /// To run the project in the file that the second word names, up to so many entries of the log.
     Replay { limit: u32 },
+    /// To show the path of this workingstep of the project in the file that the second word names.
+    Path { step: Number },
     /// To say which commands there are.
     Help,
     /// To say which program this is.
@@ -22,6 +24,7 @@ pub enum Command {
 #[derive(Clone, Copy, Debug, PartialEq, Eq)]
 enum Line {
     Replay,
+    Path,
     Help,
     Version,
 }
@@ -36,21 +39,21 @@ fn has_leading_zero(word: &[u8]) -> bool
     }
 }
 
-/// The number that at most seven digits spell.
-fn value_of(digits: &[u8]) -> u32
-    requires few { length digits.now ≤ 7 }
+/// The number that at most ten digits spell.
+fn value_of(digits: &[u8]) -> u64
+    requires few { length digits.now ≤ 10 }
     requires digits { list_all is_digit digits.now ≡ true }
     ensures { result ≡ value_of digits.now }
 {
-    let mut value: u32 = 0;
+    let mut value: u64 = 0;
     for digit in digits {
-        value = value * 10 + u32::from(*digit - b'0');
+        value = value * 10 + u64::from(*digit - b'0');
     }
     value
 }
 
 /// Whether the byte is a digit.
-pub fn is_digit(b: u8) -> bool
+fn is_digit(b: u8) -> bool
     ensures { result ≡ is_digit b }
 {
     48 <= b && b <= 57
@@ -63,19 +66,24 @@ fn are_digits(word: &[u8]) -> bool
     word.iter().all(|b| is_digit(*b))
 }
 
-/// Whether a word is a number: 1 to 7 digits without a leading zero.
-fn is_number(word: &[u8]) -> bool
-    ensures { result ≡ is_number word.now }
+/// Whether a word is a number: 1 to `most` digits without a leading zero.
+fn is_number(word: &[u8], most: usize) -> bool
+    ensures { result ≡ is_number most word.now }
 {
-    0 < word.len() && word.len() <= 7 && are_digits(word) && !has_leading_zero(word)
+    0 < word.len() && word.len() <= most && are_digits(word) && !has_leading_zero(word)
 }
 
-/// The number that a word is.
-fn number_of(word: &[u8]) -> Option<u32>
-    ensures { MatchOption result (is_number word.now ≡ false) (λ n. (is_number word.now ≡ true) × (n ≡ value_of word.now)) }
+/// The number from 1 to `most` that a word is, in at most so many digits.
+fn count_of(word: &[u8], digits: usize, most: u32) -> Option<u32>
+    requires { digits ≤ 10 }
+    ensures { MatchOption result (is_count digits most word.now ≡ false) (λ n. (is_count digits most word.now ≡ true) × (n ≡ value_of word.now)) }
 {
-    if is_number(word) {
-        Some(value_of(word))
+    if !is_number(word, digits) {
+        return None;
+    }
+    let value = value_of(word);
+    if 1 <= value && value <= u64::from(most) {
+        Some(value as u32)
     } else {
         None
     }
@@ -85,10 +93,14 @@ fn number_of(word: &[u8]) -> Option<u32>
 fn limit_of(word: &[u8]) -> Option<u32>
     ensures { MatchOption result (is_limit word.now ≡ false) (λ n. (is_limit word.now ≡ true) × (n ≡ value_of word.now)) }
 {
-    match number_of(word) {
-        Some(n) if 1 <= n && n <= 2_000_000 => Some(n),
-        _ => None,
-    }
+    count_of(word, 7, 2_000_000)
+}
+
+/// The number of an instance that a word is: 1 to 2,147,483,647.
+fn step_of(word: &[u8]) -> Option<Number>
+    ensures { MatchOption result (is_step word.now ≡ false) (λ n. (is_step word.now ≡ true) × (n ≡ value_of word.now)) }
+{
+    count_of(word, 10, 2_147_483_647)
 }
 
 /// How many words a line has.
@@ -97,6 +109,7 @@ fn length_of(line: Line) -> usize
 {
     match line {
         Line::Replay => 5,
+        Line::Path => 3,
         Line::Help | Line::Version => 1,
     }
 }
@@ -107,9 +120,11 @@ fn fits(line: Line, place: usize, word: &[u8]) -> bool
 {
     match (line, place) {
         (Line::Replay, 0) => word == b"replay".as_slice(),
-        (Line::Replay, 1) => !word.is_empty(),
+        (Line::Replay | Line::Path, 1) => !word.is_empty(),
         (Line::Replay, 2 | 3) => word == b"-".as_slice(),
         (Line::Replay, 4) => limit_of(word).is_some(),
+        (Line::Path, 0) => word == b"path".as_slice(),
+        (Line::Path, 2) => step_of(word).is_some(),
         (Line::Help, 0) => word == b"--help".as_slice(),
         (Line::Version, 0) => word == b"--version".as_slice(),
         _ => false,
@@ -145,6 +160,16 @@ fn replay_of(words: &[NcText]) -> Command
     Command::Replay { limit }
 }
 
+/// What the words of a path ask for.
+fn path_of(words: &[NcText]) -> Command
+    requires { is_line words.now path_line ≡ true }
+    ensures { Ask words.now (Ok result) }
+{
+    let last = &words[2];
+    let step = step_of(last.bytes()).unwrap();
+    Command::Path { step }
+}
+
 /// What the words ask for, or the place at which they are bad: the least place up to which, that place included, they begin no
 /// line of the table; where they end too early, it is their number.
 pub fn command_of(words: &[NcText]) -> Result<Command, usize>
@@ -154,6 +179,10 @@ pub fn command_of(words: &[NcText]) -> Result<Command, usize>
     if is_whole(Line::Replay, words, replay) {
         return Ok(replay_of(words));
     }
+    let path = fitting(Line::Path, words);
+    if is_whole(Line::Path, words, path) {
+        return Ok(path_of(words));
+    }
     let help = fitting(Line::Help, words);
     if is_whole(Line::Help, words, help) {
         return Ok(Command::Help);
@@ -162,5 +191,5 @@ pub fn command_of(words: &[NcText]) -> Result<Command, usize>
     if is_whole(Line::Version, words, version) {
         return Ok(Command::Version);
     }
-    Err(replay.max(help).max(version))
+    Err(replay.max(path).max(help).max(version))
 }

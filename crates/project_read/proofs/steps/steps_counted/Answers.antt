@@ -1,11 +1,11 @@
 use Rattle.std.proofs.Common.{get_or, sym, refl, rules}
-use Rattle.project_read.specs.Plan.{can_be_defined}
+use Rattle.project_read.specs.Plan.{is_workingstep}
 use Rattle.project_read.proofs.Faulting.{one_passes, with_step, with_fault}
 use Rattle.project_read.proofs.steps.steps_counted.Goals.{in-Ok+in_ok-push-in-Ok, in-Err}
 use Rattle.project_read.proofs.steps.steps_counted.Goals as goal
 
 pub resolve-requires : goal.resolve-requires
-resolve-requires g c = let e = one_passes (can_be_defined c.args.store.now) c.args.numbers.now c.loop-n.n-index c.loop-n-test.true c.requires.workingsteps in search rules
+resolve-requires g c = let e = one_passes (is_workingstep c.args.store.now) c.args.numbers.now c.loop-n.n-index c.loop-n-test.true c.requires.workingsteps in search rules
 
 pub loop-n-preserved : goal.loop-n-preserved
 loop-n-preserved g c =

@@ -1,0 +1,32 @@
+-- A run of a project.
+use Rattle.std.specs.Prelude.{ℕ, ◌≤◌, List, [], ◌∷◌, length, Option, Some, option_map}
+use Rattle.std.specs.Result.{result_ok}
+use Rattle.path_blocks.specs.declared.block.Block.{Block}
+use Rattle.path_blocks.specs.Path.{path_of}
+use Rattle.project_store.specs.Entities.{entity_at}
+use Rattle.step_def.specs.DefOf.{def_of}
+use Rattle.project_read.specs.Holds.{Project}
+use Rattle.run_log.specs.declared.entry.Entry.{Entry}
+use Rattle.run_log.specs.declared.entry.Ending.{Ending}
+use Rattle.trace_law.specs.Exec.{Exec, Work, Plan, Execs, NoMore, Then}
+use Rattle.run_core.specs.Legal.{Legal}
+use Rattle.run_core.specs.Endings.{EndsSo}
+
+-- workingsteps as the elements of a workplan
+abbrev pub elements : List ℕ → Execs
+elements [] = NoMore
+elements (n ∷ ns) = Then (Work n) (elements ns)
+
+-- the tree of a project
+abbrev pub tree_of_project : Project → Exec
+tree_of_project p = Plan (Some p.main) (elements p.steps)
+
+-- the blocks of each workingstep: the path of its definition
+abbrev pub paths_in : Project → ℕ → Option (List Block)
+paths_in p n = option_map path_of (result_ok (def_of (entity_at p.entities) n))
+
+-- the log is a legal run of the project, and it ends so under this limit
+pub record IsRun (p : Project) (limit : ℕ) (t : List Entry) (ending : Ending) : Type 0 where
+  pub legal : Legal (paths_in p) (tree_of_project p) t
+  pub ends : EndsSo (tree_of_project p) t limit ending
+  pub within : length t ≤ limit
