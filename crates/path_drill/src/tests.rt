@@ -1,9 +1,14 @@
+ghost use Rattle.std.specs.Prelude.{IsTrue};
+ghost use Rattle.path_blocks.specs.Kind.{is_drill};
+
 use super::*;
 use std::test::Fail;
 
 /// A hole with a dwell of half a second at its bottom. It is 14 mm deep and is cut in levels of 5 mm, which the path of a drilled
 /// hole doesn't show.
-fn dwelling() -> Def {
+fn dwelling() -> Def
+    ensures { IsTrue (is_drill result.shape) }
+{
     Def {
         tool: 44,
         spindle: 20_000,
@@ -22,7 +27,9 @@ fn dwelling() -> Def {
 }
 
 /// Another hole, without a dwell.
-fn plain() -> Def {
+fn plain() -> Def
+    ensures { IsTrue (is_drill result.shape) }
+{
     Def {
         tool: 7,
         spindle: -12_500,

@@ -1,3 +1,6 @@
+ghost use Rattle.std.specs.Prelude.{IsTrue};
+ghost use Rattle.path_blocks.specs.Kind.{is_plane};
+
 use super::*;
 use std::test::Fail;
 
@@ -14,7 +17,9 @@ fn feed(x: i64, y: i64, z: i64) -> Block {
 }
 
 /// A face of 100 mm by 50 mm along x, 2 mm deep, in rows 20 mm apart that run there and back.
-fn face() -> Def {
+fn face() -> Def
+    ensures { IsTrue (is_plane result.shape) }
+{
     Def {
         tool: 44,
         spindle: 20_000,
@@ -62,7 +67,9 @@ fn rows_there_and_back(rt: HostRuntime) -> Result<(), Fail> {
 }
 
 /// A face against y, one way only, in two levels. Its width is two steps, and the row at the width is the third.
-fn one_way() -> Def {
+fn one_way() -> Def
+    ensures { IsTrue (is_plane result.shape) }
+{
     Def {
         tool: 7,
         spindle: -1,
@@ -115,7 +122,9 @@ fn rows_one_way(rt: HostRuntime) -> Result<(), Fail> {
 }
 
 /// The face of the example plate: 120 mm along y and 100 mm across, 5 mm deep, in levels of 2.5 mm and rows 19 mm apart.
-fn plate() -> Def {
+fn plate() -> Def
+    ensures { IsTrue (is_plane result.shape) }
+{
     Def {
         tool: 40,
         spindle: 20_000,

@@ -1,3 +1,6 @@
+ghost use Rattle.std.specs.Prelude.{IsTrue};
+ghost use Rattle.path_blocks.specs.Kind.{is_pocket};
+
 use super::*;
 use std::test::Fail;
 
@@ -14,7 +17,9 @@ fn feed(x: i64, y: i64, z: i64) -> Block {
 }
 
 /// A pocket of 40 mm by 20 mm, 5 mm deep, for a tool of 10 mm, in rings 4 mm apart.
-fn pocket() -> Def {
+fn pocket() -> Def
+    ensures { IsTrue (is_pocket result.shape) }
+{
     Def {
         tool: 44,
         spindle: 20_000,
@@ -61,7 +66,9 @@ fn two_rings_from_the_inside_out(rt: HostRuntime) -> Result<(), Fail> {
 }
 
 /// A pocket of 10 mm by 10 mm for a tool of 10 mm.
-fn point() -> Def {
+fn point() -> Def
+    ensures { IsTrue (is_pocket result.shape) }
+{
     Def {
         tool: 44,
         spindle: 20_000,
@@ -102,7 +109,9 @@ fn a_pocket_as_wide_as_its_tool(rt: HostRuntime) -> Result<(), Fail> {
 }
 
 /// A square of 4 mm, 5 mm deep, in levels of 2 mm and rings 2 mm apart: two levels above the bottom, and a ring that is a point.
-fn levels() -> Def {
+fn levels() -> Def
+    ensures { IsTrue (is_pocket result.shape) }
+{
     Def {
         tool: 7,
         spindle: 0,
@@ -153,7 +162,9 @@ fn the_last_level_is_the_bottom(rt: HostRuntime) -> Result<(), Fail> {
 
 /// The pocket of the example plate: 50 mm by 80 mm for a tool of 20 mm, 30 mm deep with 0.5 mm left at the bottom and 1 mm at the
 /// sides, in levels of 6.5 mm and rings 5 mm apart.
-fn plate() -> Def {
+fn plate() -> Def
+    ensures { IsTrue (is_pocket result.shape) }
+{
     Def {
         tool: 40,
         spindle: 20_000,
