@@ -338,9 +338,9 @@ module _ (s : Source) (at : ℕ) where
       let tail_2 = both s 1 2 0 (at + 1 + 1) (at + 1 + 1 + 1) (after + 1 + 1) (fixed opening ∷ []) ((schema ∷ more_schemas ∷ []) ++ ((fixed closing ∷ []) ++ (fixed semicolon ∷ []))) (λ r. opening ∷ r) (λ r. f (closing ∷ semicolon ∷ r)) (open_inner inner) tail_1 in
       let tail_3 = both s 0 1 0 (at + 1) (at + 1 + 1) (after + 1 + 1) (fixed opening ∷ []) ((fixed opening ∷ []) ++ ((schema ∷ more_schemas ∷ []) ++ ((fixed closing ∷ []) ++ (fixed semicolon ∷ [])))) (λ r. opening ∷ r) (λ r. opening ∷ f (closing ∷ semicolon ∷ r)) (open_outer outer) tail_2 in
       let made = both s 0 0 0 at (at + 1) (after + 1 + 1) (fixed (word (codes "FILE_SCHEMA")) ∷ []) ((fixed opening ∷ []) ++ ((fixed opening ∷ []) ++ ((schema ∷ more_schemas ∷ []) ++ ((fixed closing ∷ []) ++ (fixed semicolon ∷ [])))))
-          (λ r. word (codes "FILE_SCHEMA") ∷ r) (λ r. opening ∷ opening ∷ f (closing ∷ semicolon ∷ r)) (word_took s 0 at (codes "FILE_SCHEMA") (omega arith) has) tail_3 in
+      (λ r. word (codes "FILE_SCHEMA") ∷ r) (λ r. opening ∷ opening ∷ f (closing ∷ semicolon ∷ r)) (word_took s 0 at (codes "FILE_SCHEMA") (omega arith) has) tail_3 in
       let respelt = respelled s 0 0 at (after + 1 + 1) schema_steps (λ r. word (codes "FILE_SCHEMA") ∷ opening ∷ opening ∷ f (closing ∷ semicolon ∷ r)) (spell_entry p)
-          (λ r. ap (λ (t : List ℕ). keyword t ∷ opening ∷ opening ∷ f (closing ∷ semicolon ∷ r)) (sym is) ∙ ap (λ (ps : Trees). keyword p.keyword ∷ opening ∷ spell_list ps (semicolon ∷ r)) (sym has_these)) made in
+      (λ r. ap (λ (t : List ℕ). keyword t ∷ opening ∷ opening ∷ f (closing ∷ semicolon ∷ r)) (sym is) ∙ ap (λ (ps : Trees). keyword p.keyword ∷ opening ∷ spell_list ps (semicolon ∷ r)) (sym has_these)) made in
       subst (λ (k : ℕ). IsRead s 0 0 schema_entry at k (spell_entry p)) (sym last) (subst (λ (is : List Item). IsRead s 0 0 is at (after + 1 + 1) (spell_entry p)) schema_same respelt)
 
 text_flat : (t : Tree) → IsText t → nesting t ≡ 0

@@ -179,12 +179,15 @@ pushed s at number keys new l own lt fresh is = record {
 }
 
 pub too_many : (s : Source) (end at number : ℕ) (keys : List ℕ) → at < end → SoFar s at keys → IsOwn s at number → 200000 ≤ length keys → (n : ℕ) × FaultAt s end at n (λ ns. 200000 < length ns)
-too_many s end at number keys lt l own many = (number, record {
-  early = lt;
-  has = own.has;
-  fine = fine s at keys l;
-  fault = omega (arith, ap length own.owns, length-append (file_numbers (before s at)) (number ∷ []), ap length l.numbers);
-})
+too_many s end at number keys lt l own many = (
+  number,
+  record {
+    early = lt;
+    has = own.has;
+    fine = fine s at keys l;
+    fault = omega (arith, ap length own.owns, length-append (file_numbers (before s at)) (number ∷ []), ap length l.numbers);
+  },
+)
 
 last_of : (P : ℕ → Type 0) (keys : List ℕ) (number : ℕ) → AllByRecursion P (keys ++ number ∷ []) → P number
 last_of P [] number all = all.0
@@ -205,15 +208,18 @@ not_twice number (k ∷ keys) e d = by (nat_eq number k) refl e (λ more. not_tw
 
 pub twice : (s : Source) (end at number : ℕ) (keys : List ℕ) → at < end → SoFar s at keys → IsOwn s at number → length keys < 200000 → list_any (nat_eq number) keys ≡ true
     → (k : ℕ) × FaultAt s end k number (λ ns. (length ns ≤ 200000) × (IsDistinct nat_eq ns → ⊥))
-twice s end at number keys lt l own few again = (at, record {
-  early = lt;
-  has = own.has;
-  fine = fine s at keys l;
-  fault = (
-    omega (arith, ap length own.owns, length-append (file_numbers (before s at)) (number ∷ []), ap length l.numbers),
-    λ d. not_twice number keys again (subst (λ (ns : List ℕ). IsDistinct nat_eq ns) (own.owns ∙ ap (λ (ks : List ℕ). ks ++ number ∷ []) (sym l.numbers)) d),
-  );
-})
+twice s end at number keys lt l own few again = (
+  at,
+  record {
+    early = lt;
+    has = own.has;
+    fine = fine s at keys l;
+    fault = (
+      omega (arith, ap length own.owns, length-append (file_numbers (before s at)) (number ∷ []), ap length l.numbers),
+      λ d. not_twice number keys again (subst (λ (ns : List ℕ). IsDistinct nat_eq ns) (own.owns ∙ ap (λ (ks : List ℕ). ks ++ number ∷ []) (sym l.numbers)) d),
+    );
+  },
+)
 
 -- the names of all tokens up to the end
 pub at_end : (s : Source) (end at : ℕ) (keys : List ℕ) → at ≡ end → SoFar s at keys → AreFine (before s end)

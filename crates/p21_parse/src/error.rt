@@ -3,9 +3,9 @@
 ghost use Rattle.std.specs.Prelude.{◌≡◌};
 ghost use Rattle.p21_parse.specs.declared.error.ReadErr.TheVariants.{NoMemory};
 
-use std::alloc::{AllocError, AllocFailed};
 use nc_base::Number;
 use p21_lex::LexErr;
+use std::alloc::{AllocError, AllocFailed};
 use thiserror::Error;
 
 /// Why a text has no exchange.

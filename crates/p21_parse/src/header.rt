@@ -67,7 +67,13 @@ impl Source<'_> {
     }
 
     /// An entry of this keyword with so many parameters more than one.
-    pub fn named(&self, alloc: Global, at: usize, text: &[u8], more: u32) -> Result<(Part, usize), Stop>
+    pub fn named(
+        &self,
+        alloc: Global,
+        at: usize,
+        text: &[u8],
+        more: u32,
+    ) -> Result<(Part, usize), Stop>
         requires source { IsSource self.now }
         requires at { at ≤ length self.now.tokens.now }
         requires plain { is_user text.now ≡ false }
@@ -81,7 +87,13 @@ impl Source<'_> {
         let (parameters, after) = self.counted(alloc, inner, more)?;
         let next = self.mark(after, TokenKind::Semicolon)?;
         let keyword = NcText::of(alloc, text)?;
-        Ok((Part { keyword, parameters }, next))
+        Ok((
+            Part {
+                keyword,
+                parameters,
+            },
+            next,
+        ))
     }
 
     /// A text.
@@ -136,7 +148,13 @@ impl Source<'_> {
         let next = self.mark(close, TokenKind::Semicolon)?;
         let parameters = list_in_list(alloc, names)?;
         let keyword = NcText::of(alloc, b"FILE_SCHEMA")?;
-        Ok((Part { keyword, parameters }, next))
+        Ok((
+            Part {
+                keyword,
+                parameters,
+            },
+            next,
+        ))
     }
 
     /// Whether the word that ends the header stands at an index, and no entry of that keyword.
@@ -167,7 +185,13 @@ impl Source<'_> {
         let (parameters, after) = self.parameters(alloc, inner, 1)?;
         let next = self.mark(after, TokenKind::Semicolon)?;
         let keyword = NcText::of(alloc, word)?;
-        Ok((Part { keyword, parameters }, next))
+        Ok((
+            Part {
+                keyword,
+                parameters,
+            },
+            next,
+        ))
     }
 
     /// Further entries, which are put behind those read before, and the end of the header.

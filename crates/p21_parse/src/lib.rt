@@ -12,10 +12,11 @@ mod parameters;
 mod parts;
 mod reading;
 mod source;
+#[cfg(test)]
+mod tests;
 
 pub use error::ReadErr;
 pub use exchange::{Exchange, Instance, InstanceList, Part, PartList};
 pub use laws::{grammar_laws, instance_laws};
 pub use param::{Param, ParamList};
 pub use reading::{read, text_laws};
-

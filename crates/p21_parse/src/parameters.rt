@@ -91,7 +91,12 @@ impl Source<'_> {
 
     /// Parameters or nothing behind an opening parenthesis, which is counted in `n`, and the closing one.
     #[cycle(params)]
-    pub fn parameter_list(&self, alloc: Global, at: usize, n: u32) -> Result<(ParamList, usize), Stop>
+    pub fn parameter_list(
+        &self,
+        alloc: Global,
+        at: usize,
+        n: u32,
+    ) -> Result<(ParamList, usize), Stop>
         requires source { IsSource self.now }
         requires at { at ≤ length self.now.tokens.now }
         requires nest { n ≤ 32 }

@@ -51,7 +51,13 @@ impl Source<'_> {
         };
         let (parameters, next) = self.arguments(alloc, at + 1)?;
         let keyword = NcText::of(alloc, word)?;
-        Ok((Part { keyword, parameters }, next))
+        Ok((
+            Part {
+                keyword,
+                parameters,
+            },
+            next,
+        ))
     }
 
     /// The parts of a complex instance, and the closing parenthesis behind them.
@@ -108,7 +114,14 @@ impl Source<'_> {
         let (body, after) = self.body(alloc, start)?;
         let next = self.mark(after, TokenKind::Semicolon)?;
         let Body { complex, parts } = body;
-        Ok((Instance { number, complex, parts }, next))
+        Ok((
+            Instance {
+                number,
+                complex,
+                parts,
+            },
+            next,
+        ))
     }
 
     /// The instances from an index on, until no name follows.
