@@ -96,6 +96,8 @@ fn face_work(alloc: Global, project: &mut Vec<Entity>) -> Result<(), Fail> {
     project.push(put!(alloc 43 Endmill Field::Ref(48)))?;
     project.push(put!(alloc 48 MillingToolDimension Field::Value(20_000)))?;
     project.push(put!(alloc 35 Unidirectional Field::Value(50)))?;
+    project.push(put!(alloc 36 Unidirectional Field::Value(1_000)))?;
+    project.push(put!(alloc 37 Bidirectional Field::Value(-1)))?;
     Ok(())
 }
 
@@ -147,6 +149,8 @@ fn contour_work(alloc: Global, project: &mut Vec<Entity>) -> Result<(), Fail> {
     project.push(put!(alloc 82 CartesianPoint triple!(0, 80_000, 8)))?;
     project.push(put!(alloc 83 CartesianPoint triple!(50_000, 80_000, 9)))?;
     project.push(put!(alloc 84 CartesianPoint triple!(50_000, 0, 0)))?;
+    project.push(put!(alloc 85 CartesianPoint triple!(0, 100_000_001, 0)))?;
+    project.push(put!(alloc 86 CartesianPoint triple!(50_000, 100_000_001, 0)))?;
     Ok(())
 }
 
@@ -322,6 +326,41 @@ fn missing(alloc: Global, rows: &mut Vec<Row>) -> Result<(), Fail> {
     Ok(())
 }
 
+/// What refers to an instance of another class than it has to be.
+fn of_another_class(alloc: Global, rows: &mut Vec<Row>) -> Result<(), Fail> {
+    rows.push((
+        10,
+        put!(alloc 50 Plane Field::Ref(70)),
+        Err(DefFault::Missing(50, 2)),
+    ))?;
+    rows.push((
+        10,
+        put!(alloc 60 Axis2Placement3d Field::Ref(70), Field::Ref(70), Field::Absent),
+        Err(DefFault::Missing(60, 3)),
+    ))?;
+    rows.push((
+        10,
+        put!(alloc 20 RoundHole Field::Ref(60), Field::Ref(60), Field::Value(10_000)),
+        Err(DefFault::Missing(20, 5)),
+    ))?;
+    rows.push((
+        10,
+        put!(alloc 30 Drilling Field::Absent, Field::Ref(46), Field::Ref(44), Field::Ref(45), Field::Absent),
+        Err(DefFault::Missing(30, 4)),
+    ))?;
+    rows.push((
+        10,
+        put!(alloc 30 Drilling Field::Absent, Field::Value(5_000), Field::Ref(44), Field::Ref(44), Field::Absent),
+        Err(DefFault::Missing(30, 7)),
+    ))?;
+    rows.push((
+        10,
+        put!(alloc 45 MillingTechnology Field::Absent, Field::Absent),
+        Err(DefFault::Missing(45, 1)),
+    ))?;
+    Ok(())
+}
+
 fn wrong(alloc: Global, rows: &mut Vec<Row>) -> Result<(), Fail> {
     rows.push((
         10,
@@ -386,6 +425,16 @@ fn out_of_range(alloc: Global, rows: &mut Vec<Row>) -> Result<(), Fail> {
         10,
         put!(alloc 45 MillingTechnology Field::Value(40), Field::Value(-100_000_001)),
         Err(DefFault::OutOfRange(45, 4)),
+    ))?;
+    rows.push((
+        10,
+        put!(alloc 45 MillingTechnology Field::Value(100_000_001), Field::Value(100_000_001)),
+        Err(DefFault::OutOfRange(45, 1)),
+    ))?;
+    rows.push((
+        10,
+        put!(alloc 20 RoundHole Field::Ref(60), Field::Ref(51), Field::Value(100_000_001)),
+        Err(DefFault::OutOfRange(20, 6)),
     ))?;
     Ok(())
 }
@@ -689,6 +738,57 @@ fn out_of_range_in_milling(alloc: Global, rows: &mut Vec<Row>) -> Result<(), Fai
     Ok(())
 }
 
+/// What lies past the ranges in a contour, in rows and in rings, and toolpaths and depths of milling.
+fn wrong_in_milling(alloc: Global, rows: &mut Vec<Row>) -> Result<(), Fail> {
+    let far = numbers(alloc, &[81, 85, 86, 84])?;
+    rows.push((
+        14,
+        put!(alloc 28 Polyline Field::Refs(far)),
+        Err(DefFault::OutOfRange(85, 2)),
+    ))?;
+    rows.push((
+        12,
+        put!(alloc 26 RectangularClosedProfile Field::Value(100_000_001), Field::Value(100_000_001)),
+        Err(DefFault::OutOfRange(26, 2)),
+    ))?;
+    rows.push((
+        11,
+        put!(alloc 31 PlaneRoughMilling Field::Absent, Field::Value(5_000), Field::Ref(40), Field::Ref(45), Field::Ref(36), Field::Absent, Field::Absent),
+        Err(DefFault::OutOfRange(36, 1)),
+    ))?;
+    rows.push((
+        11,
+        put!(alloc 31 PlaneRoughMilling Field::Absent, Field::Value(5_000), Field::Ref(40), Field::Ref(45), Field::Ref(37), Field::Absent, Field::Absent),
+        Err(DefFault::OutOfRange(37, 1)),
+    ))?;
+    rows.push((
+        12,
+        put!(alloc 32 BottomAndSideRoughMilling Field::Absent, Field::Value(5_000), Field::Ref(41), Field::Ref(45), Field::Value(100_000_001), Field::Absent, Field::Value(-1), Field::Absent),
+        Err(DefFault::OutOfRange(32, 13)),
+    ))?;
+    rows.push((
+        11,
+        put!(alloc 31 PlaneRoughMilling Field::Present, Field::Value(5_000), Field::Ref(40), Field::Ref(45), Field::Absent, Field::Absent, Field::Absent),
+        Err(DefFault::HasToolpath(31)),
+    ))?;
+    rows.push((
+        12,
+        put!(alloc 32 BottomAndSideRoughMilling Field::Present, Field::Value(5_000), Field::Ref(41), Field::Ref(45), Field::Absent, Field::Value(4_000), Field::Absent, Field::Absent),
+        Err(DefFault::HasToolpath(32)),
+    ))?;
+    rows.push((
+        11,
+        put!(alloc 73 CartesianPoint triple!(0, 0, 0)),
+        Err(DefFault::NotPositive(21, 5)),
+    ))?;
+    rows.push((
+        12,
+        put!(alloc 76 CartesianPoint triple!(0, 0, 1)),
+        Err(DefFault::NotPositive(22, 5)),
+    ))?;
+    Ok(())
+}
+
 /// Tools that are too big, paths with too many blocks, and milling without a fault.
 fn milled(alloc: Global, rows: &mut Vec<Row>) -> Result<(), Fail> {
     rows.push((
@@ -780,6 +880,7 @@ fn faults_and_definitions(rt: HostRuntime) -> Result<(), Fail> {
     more_places(alloc, &mut project)?;
     let mut rows = Vec::new(alloc);
     missing(alloc, &mut rows)?;
+    of_another_class(alloc, &mut rows)?;
     wrong(alloc, &mut rows)?;
     out_of_range(alloc, &mut rows)?;
     good(alloc, &mut rows)?;
@@ -788,9 +889,10 @@ fn faults_and_definitions(rt: HostRuntime) -> Result<(), Fail> {
     unfit(alloc, &mut rows)?;
     not_positive(alloc, &mut rows)?;
     out_of_range_in_milling(alloc, &mut rows)?;
+    wrong_in_milling(alloc, &mut rows)?;
     milled(alloc, &mut rows)?;
     let answers = answers::<Brand>(alloc, Blank::new(1), &project, &rows)?;
-    assert_eq!(rt; answers.len(), 83);
+    assert_eq!(rt; answers.len(), 100);
     for (row, answer) in rows.iter().zip(&answers) {
         assert_eq!(rt;
             *answer,
