@@ -11,3 +11,6 @@ mod steps;
 pub use project::Project;
 pub use reading::project_in;
 pub use reason::{ProjectErr, ProjectReason};
+
+#[cfg(test)]
+mod tests;
