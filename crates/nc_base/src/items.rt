@@ -32,6 +32,15 @@ impl<T> ItemList<T> {
         }
     }
 
+    /// The empty list with room for so many items, so that pushing them takes no more memory.
+    pub fn with_capacity(alloc: Global, capacity: u32) -> Result<Self, NoMemory>
+        ensures { IfOk result (λ list. list ≡ []) }
+    {
+        Ok(ItemList {
+            items: Vec::with_capacity(alloc, capacity as usize)?,
+        })
+    }
+
     /// How many items there are.
     pub fn len(&self) -> u32
         ensures { result ≡ length self.now }

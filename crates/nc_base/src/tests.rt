@@ -7,7 +7,7 @@ use std::test::Fail;
 
 #[test]
 fn lists_grow_and_shrink(rt: HostRuntime) -> Result<(), Fail> {
-    let mut list: ItemList<u64> = ItemList::new(rt.alloc());
+    let mut list: ItemList<u64> = ItemList::with_capacity(rt.alloc(), 1)?;
     assert!(rt; list.is_empty());
     list.push(7)?;
     list.push(9)?;
@@ -17,6 +17,9 @@ fn lists_grow_and_shrink(rt: HostRuntime) -> Result<(), Fail> {
     assert_eq!(rt; list.pop(), Some(9));
     assert_eq!(rt; list.pop(), Some(7));
     assert_eq!(rt; list.pop(), None);
+
+    let none: ItemList<u64> = ItemList::new(rt.alloc());
+    assert_eq!(rt; none.len(), 0);
 
     let mut numbers = NumberList::new(rt.alloc());
     numbers.push(2_147_483_647)?;
@@ -35,6 +38,22 @@ fn texts_hold_their_bytes(rt: HostRuntime) -> Result<(), Fail> {
     assert_eq!(rt; text.len(), 3);
     assert_eq!(rt; text.pop(), Some(b'c'));
     assert!(rt; NcText::new(rt.alloc()).is_empty());
+    Ok(())
+}
+
+#[test]
+fn texts_hold_few_bytes_and_many(rt: HostRuntime) -> Result<(), Fail> {
+    let bytes = b"MACHINING_WORKINGSTEP".as_slice();
+    for len in [0, 1, 15, 16, 17, 21] {
+        let mut text = NcText::of(rt.alloc(), &bytes[..len])?;
+        assert_eq!(rt; text.bytes(), &bytes[..len]);
+        text.push(b'A')?;
+        text.push(b'B')?;
+        assert_eq!(rt; text.pop(), Some(b'B'));
+        assert_eq!(rt; text.len() as usize, len + 1);
+        assert_eq!(rt; text.pop(), Some(b'A'));
+        assert_eq!(rt; text.bytes(), &bytes[..len]);
+    }
     Ok(())
 }
 

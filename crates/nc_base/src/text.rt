@@ -3,23 +3,25 @@
 ghost use Rattle.std.specs.Prelude.{◌≡◌, ◌+◌, ◌<◌, [], ◌∷◌, ◌++◌, length, OnOk, OnErr, IfSome, IsNone, IfNone, IfOk, ◌↔◌, IsTrue, slice_get, Some};
 
 use crate::memory::NoMemory;
+use smallvec::SmallVec;
 use std::alloc::Global;
 use std::marker::Model;
 
 /// A text of at most 4,294,967,295 bytes, which need not be UTF-8. It keeps the allocator that it was made with.
+/// Up to 16 bytes lie in the text itself, as most numbers, keywords and names in a project do, and take no memory beside it.
 #[derive(Debug, Drop)]
 pub struct NcText {
-    bytes: Vec<u8>,
+    bytes: SmallVec<u8, 16>,
 }
 
 impl Model for NcText {
-    ghost use Rattle.std.specs.Prelude.{ℕ, ◌<◌, ◌^◌, List, vec_len};
+    ghost use Rattle.std.specs.Prelude.{ℕ, ◌<◌, ◌^◌, List, length};
 
     ghost Value = { List ℕ };
 
     ghost view = { λ t. t.bytes.items };
 
-    ghost invariant = { λ t. vec_len t.bytes < 2 ^ 32 };
+    ghost invariant = { λ t. length t.bytes.items < 2 ^ 32 };
 }
 
 impl NcText {
@@ -28,7 +30,7 @@ impl NcText {
         ensures { result ≡ [] }
     {
         NcText {
-            bytes: Vec::new(alloc),
+            bytes: SmallVec::new(alloc),
         }
     }
 
@@ -40,7 +42,7 @@ impl NcText {
             return Err(NoMemory);
         }
         Ok(NcText {
-            bytes: Vec::from_slice(alloc, bytes)?,
+            bytes: SmallVec::from_slice(alloc, bytes)?,
         })
     }
 

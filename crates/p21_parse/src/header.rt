@@ -23,7 +23,7 @@ use std::alloc::Global;
 fn list_in_list(alloc: Global, params: ParamList) -> Result<ParamList, NoMemory>
     ensures { IfOk result (λ whole. trees_of whole ≡ first (list (trees_of params)) none) }
 {
-    let mut whole = ParamList::new(alloc);
+    let mut whole = ParamList::with_capacity(alloc, 1)?;
     whole.push(Param::List(params))?;
     Ok(whole)
 }

@@ -1,6 +1,6 @@
 //! Parameters, and lists of them.
 
-ghost use Rattle.std.specs.Prelude.{◌≡◌, ◌<◌, map, min, OnOk, OnErr, IfSome, IsNone, IfNone, ◌↔◌, IsTrue, Some};
+ghost use Rattle.std.specs.Prelude.{◌≡◌, ◌<◌, map, min, IfOk, OnOk, OnErr, IfSome, IsNone, IfNone, ◌↔◌, IsTrue, Some};
 ghost use Rattle.p21_parse.specs.Tree.{none, count, listed, tree_at, with_last};
 ghost use Rattle.p21_parse.specs.View.{tree_of, trees_of};
 
@@ -41,6 +41,15 @@ impl ParamList {
         ParamList {
             params: Vec::new(alloc),
         }
+    }
+
+    /// The empty list with room for so many parameters, so that pushing them takes no more memory.
+    pub fn with_capacity(alloc: Global, capacity: u32) -> Result<Self, NoMemory>
+        ensures { IfOk result (λ list. trees_of list ≡ none) }
+    {
+        Ok(ParamList {
+            params: Vec::with_capacity(alloc, capacity as usize)?,
+        })
     }
 
     /// How many parameters there are. Past 4,294,967,295, which no call of this type makes, the number stands still.

@@ -17,11 +17,14 @@ use nc_base::{NcText, NoMemory};
 use p21_lex::TokenKind;
 use std::alloc::Global;
 
+/// For how many parameters a list gets room at once: one that is longer grows, so that a text which only promises parameters takes little memory.
+const MOST_ROOM: u32 = 65_536;
+
 /// The parameter of a keyword and one parameter.
 fn typed_of(alloc: Global, word: &[u8], param: Param) -> Result<Param, NoMemory>
     ensures { IfOk result (λ whole. tree_of whole ≡ typed word.now (first (tree_of param) none)) }
 {
-    let mut params = ParamList::new(alloc);
+    let mut params = ParamList::with_capacity(alloc, 1)?;
     params.push(param)?;
     Ok(Param::Typed(NcText::of(alloc, word)?, params))
 }
@@ -34,6 +37,29 @@ fn list_of(params: ParamList) -> Param
 }
 
 impl Source<'_> {
+    /// For how many parameters a list gets room, whose first stands at the index: as many as its commas say, within bounds.
+    /// It is no promise of what follows.
+    fn width(&self, at: usize) -> u32
+        requires { at ≤ length self.now.tokens.now }
+        ensures { result ≤ 65536 }
+    {
+        let mut inner: u32 = 0;
+        let mut commas: u32 = 0;
+        for token in &self.tokens[at..] {
+            let kind = token.kind;
+            if kind == TokenKind::Comma && inner == 0 {
+                commas = commas.saturating_add(1);
+            } else if kind == TokenKind::Open {
+                inner = inner.saturating_add(1);
+            } else if kind == TokenKind::Close && inner > 0 {
+                inner -= 1;
+            } else if kind == TokenKind::Close || kind == TokenKind::Semicolon {
+                break;
+            }
+        }
+        commas.saturating_add(1).min(MOST_ROOM)
+    }
+
     /// A parameter.
     #[cycle(params)]
     pub fn parameter(&self, alloc: Global, at: usize, n: u32) -> Result<(Param, usize), Stop>
@@ -121,7 +147,7 @@ impl Source<'_> {
         ensures are { IfOk result (λ x. AreParameters (trees_of x.0) × (n + nestings (trees_of x.0) ≤ 32)) }
         ensures refused { IfErr result (IsRefused self.now n (parameter ∷ more_parameters ∷ []) at) }
     {
-        let mut params = ParamList::new(alloc);
+        let mut params = ParamList::with_capacity(alloc, self.width(at))?;
         let (first, mut rest) = self.parameter(alloc, at, n)?;
         params.push(first)?;
         while self.is_mark(rest, TokenKind::Comma) {

@@ -95,7 +95,7 @@ impl Source<'_> {
             return Ok((Body { complex, parts }, next));
         }
         let (part, next) = self.part(alloc, at)?;
-        let mut parts = PartList::new(alloc);
+        let mut parts = PartList::with_capacity(alloc, 1)?;
         parts.push(part)?;
         let complex = false;
         Ok((Body { complex, parts }, next))
