@@ -7,6 +7,7 @@ pub mod Nesting
 pub mod Numbers
 pub mod Machine
 pub mod Begins
+pub mod Spelled
 pub mod Places
 pub mod Refused
 pub mod Allowed
