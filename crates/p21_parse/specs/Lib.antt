@@ -14,3 +14,5 @@ pub mod Allowed
 pub mod Source
 pub mod Names
 pub mod Text
+pub mod Built
+pub mod Following
