@@ -95,7 +95,13 @@ fn check(alloc: Global, items: &[Instance]) -> Result<(), BuildErr>
 {
     let mut seen: IndexSet<Number> = IndexSet::new(alloc);
     for (at, item) in items.iter().enumerate() {
-        if at >= MOST_INSTANCES || !is_valid(item) || !seen.insert(item.number)? {
+        if at >= MOST_INSTANCES {
+            return Err(BuildErr::Invalid(at as u32));
+        }
+        if !is_valid(item) {
+            return Err(BuildErr::Invalid(at as u32));
+        }
+        if !seen.insert(item.number)? {
             return Err(BuildErr::Invalid(at as u32));
         }
     }
