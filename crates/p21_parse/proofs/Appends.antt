@@ -5,7 +5,7 @@ use Rattle.p21_parse.specs.Symbol.{Symbol, name, keyword, opening, closing, comm
 use Rattle.p21_parse.specs.Spell.{spell, spell_list, spell_more, spell_all, spell_part, spell_parts, spell_instance}
 
 mutual
-  longer : (t : Tree) (r more : List Symbol) → spell t (r ++ more) ≡ spell t r ++ more
+  pub longer : (t : Tree) (r more : List Symbol) → spell t (r ++ more) ≡ spell t r ++ more
   longer (one kind text) r more = refl
   longer (reference number) r more = refl
   longer (list ts) r more = ap (λ (ss : List Symbol). opening ∷ ss) (longer_list ts r more)
@@ -19,7 +19,7 @@ mutual
   longer_more none r more = refl
   longer_more (first t ts) r more = ap (λ (ss : List Symbol). comma ∷ ss) (ap (spell t) (longer_more ts r more) ∙ longer t (spell_more ts r) more)
 
-longer_part : (p : PartTree) (r more : List Symbol) → spell_part p (r ++ more) ≡ spell_part p r ++ more
+pub longer_part : (p : PartTree) (r more : List Symbol) → spell_part p (r ++ more) ≡ spell_part p r ++ more
 longer_part p r more = ap (λ (ss : List Symbol). keyword p.keyword ∷ opening ∷ ss) (longer_list p.parameters r more)
 
 longer_all : {X : Type 0} (each : X → List Symbol → List Symbol) → ((x : X) (r more : List Symbol) → each x (r ++ more) ≡ each x r ++ more) → (xs : List X) (r more : List Symbol) → spell_all each xs (r ++ more) ≡ spell_all each xs r ++ more
@@ -30,7 +30,7 @@ pub longer_parts : (c : Bool) (ps : List PartTree) (r more : List Symbol) → sp
 longer_parts false ps r more = longer_all spell_part longer_part ps r more
 longer_parts true ps r more = ap (λ (ss : List Symbol). opening ∷ ss) (longer_all spell_part longer_part ps (closing ∷ r) more)
 
-longer_instance : (i : InstanceTree) (r more : List Symbol) → spell_instance i (r ++ more) ≡ spell_instance i r ++ more
+pub longer_instance : (i : InstanceTree) (r more : List Symbol) → spell_instance i (r ++ more) ≡ spell_instance i r ++ more
 longer_instance i r more = ap (λ (ss : List Symbol). name i.number ∷ equals ∷ ss) (longer_parts i.complex i.parts (semicolon ∷ r) more)
 
 pub longer_instances : (items : List InstanceTree) (r more : List Symbol) → spell_all spell_instance items (r ++ more) ≡ spell_all spell_instance items r ++ more

@@ -29,3 +29,7 @@ pub mod OneMeaning
 pub mod Decided
 pub mod Nested
 pub mod DecidedList
+pub mod Spellings
+pub mod Fit
+pub mod Building
+pub mod Followed

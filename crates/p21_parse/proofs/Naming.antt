@@ -189,7 +189,7 @@ too_many s end at number keys lt l own many = (
   },
 )
 
-last_of : (P : ℕ → Type 0) (keys : List ℕ) (number : ℕ) → AllByRecursion P (keys ++ number ∷ []) → P number
+pub last_of : (P : ℕ → Type 0) (keys : List ℕ) (number : ℕ) → AllByRecursion P (keys ++ number ∷ []) → P number
 last_of P [] number all = all.0
 last_of P (k ∷ keys) number all = last_of P keys number all.1
 
@@ -197,7 +197,7 @@ flips : (x y : ℕ) → nat_eq x y ≡ true → nat_eq y x ≡ true
 flips x y e = grind (arith, nat_tests)
 
 -- a number that stands in a list and once more behind it is not distinct
-not_twice : (number : ℕ) (keys : List ℕ) → list_any (nat_eq number) keys ≡ true → IsDistinct nat_eq (keys ++ number ∷ []) → ⊥
+pub not_twice : (number : ℕ) (keys : List ℕ) → list_any (nat_eq number) keys ≡ true → IsDistinct nat_eq (keys ++ number ∷ []) → ⊥
 unfolding IsDistinct
 not_twice number [] e d = absurd cc
 not_twice number (k ∷ keys) e d = by (nat_eq number k) refl e (λ more. not_twice number keys more d.1)

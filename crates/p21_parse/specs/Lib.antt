@@ -7,9 +7,12 @@ pub mod Nesting
 pub mod Numbers
 pub mod Machine
 pub mod Begins
+pub mod Spelled
 pub mod Places
 pub mod Refused
 pub mod Allowed
 pub mod Source
 pub mod Names
 pub mod Text
+pub mod Built
+pub mod Following

@@ -1,4 +1,4 @@
-//! Why a text is not read.
+//! Why a text is not read, and why instances make no exchange.
 
 ghost use Rattle.std.specs.Prelude.{◌≡◌};
 ghost use Rattle.p21_parse.specs.declared.error.ReadErr.TheVariants.{NoMemory};
@@ -26,6 +26,17 @@ pub enum ReadErr {
     /// The number of an instance stands a second time.
     #[error("#{0} stands twice")]
     Duplicate(Number),
+    /// Memory ran out.
+    #[error("out of memory")]
+    NoMemory,
+}
+
+/// Why instances make no exchange.
+#[derive(Clone, Copy, Debug, PartialEq, Eq, Error)]
+pub enum BuildErr {
+    /// The instance at this index, counted from 0, is the first that is not allowed, can't be written, or has a number that stood before.
+    #[error("the instance at index {0} can't stand in an exchange")]
+    Invalid(u32),
     /// Memory ran out.
     #[error("out of memory")]
     NoMemory,
@@ -65,5 +76,25 @@ impl From<LexErr> for ReadErr {
             LexErr::NoMemory => ReadErr::NoMemory,
             fault => ReadErr::Lex(fault),
         }
+    }
+}
+
+impl<T: Drop> From<AllocFailed<T>> for BuildErr {
+    ghost use Rattle.p21_parse.specs.declared.error.BuildErr.TheVariants.{NoMemory};
+
+    ghost from_gives = { λ _ e. e ≡ NoMemory };
+
+    fn from(_e: AllocFailed<T>) -> BuildErr {
+        BuildErr::NoMemory
+    }
+}
+
+impl From<nc_base::NoMemory> for BuildErr {
+    ghost use Rattle.p21_parse.specs.declared.error.BuildErr.TheVariants.{NoMemory};
+
+    ghost from_gives = { λ _ e. e ≡ NoMemory };
+
+    fn from(_e: nc_base::NoMemory) -> BuildErr {
+        BuildErr::NoMemory
     }
 }

@@ -11,7 +11,7 @@ use p21_lex::TokenKind;
 use std::alloc::Global;
 
 /// How many instances a file has at most.
-const MOST_INSTANCES: usize = 200_000;
+pub const MOST_INSTANCES: usize = 200_000;
 
 /// What is wrong with the names of instances.
 #[derive(Clone, Copy, Debug, PartialEq, Eq)]

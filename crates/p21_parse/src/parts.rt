@@ -102,7 +102,12 @@ impl Source<'_> {
     }
 
     /// The instance of this number, whose name stands before the index, and its semicolon.
-    fn instance(&self, alloc: Global, number: Number, at: usize) -> Result<(Instance, usize), Stop>
+    pub fn instance(
+        &self,
+        alloc: Global,
+        number: Number,
+        at: usize,
+    ) -> Result<(Instance, usize), Stop>
         requires source { IsSource self.now }
         requires at { at ≤ length self.now.tokens.now }
         ensures read { IfOk result (λ x. IsRead self.now 0 0 (behind_name ∷ fixed semicolon ∷ []) at x.1 (spell_behind_name (instance_of x.0))) }

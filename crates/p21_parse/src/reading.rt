@@ -6,6 +6,7 @@ ghost use Rattle.p21_lex.specs.Reading.{Reads, IsToken};
 ghost use Rattle.p21_parse.specs.declared.error.ReadErr.{ReadErr};
 ghost use Rattle.p21_parse.specs.declared.error.ReadErr.TheVariants as errors;
 ghost use Rattle.p21_parse.specs.Tree.{ExchangeTree};
+ghost use Rattle.p21_parse.specs.Spelled.{IsSpelled};
 ghost use Rattle.p21_parse.specs.View.{exchange_of};
 ghost use Rattle.p21_parse.specs.Places.{start_of};
 ghost use Rattle.p21_parse.specs.Source.{IsSource};
@@ -33,7 +34,7 @@ fn tokens_of(alloc: Global, bytes: &[u8]) -> Result<Vec<Token>, ReadErr>
 
 impl Source<'_> {
     /// Where the token at an index begins: a byte offset, at the end the text's length.
-    fn place(&self, at: usize) -> u32
+    pub fn place(&self, at: usize) -> u32
         requires { length self.now.bytes.now ≤ 268435456 }
         ensures { result ≡ start_of self.now.bytes.now (drop at self.now.tokens.now) }
     {
@@ -101,11 +102,12 @@ pub fn read(alloc: Global, bytes: &[u8]) -> Result<Exchange, ReadErr>
     source.exchange(alloc)
 }
 
-/// A text holds one exchange at most, or it is refused for one reason, but never both. It does nothing.
+/// A text holds one exchange at most, or it is refused for one reason, but never both. What a text holds can be written. It does nothing.
 pub fn text_laws()
     ensures one { (bytes : List ℕ) (x y : ExchangeTree) → IsText bytes x → IsText bytes y → x ≡ y }
     ensures apart { (bytes : List ℕ) (x : ExchangeTree) (e : ReadErr) → IsText bytes x → IsRefusedText bytes e → e ≡ errors.NoMemory }
     ensures single { (bytes : List ℕ) (e f : ReadErr) → IsRefusedText bytes e → IsRefusedText bytes f → (e ≡ f) ⊎ ((e ≡ errors.NoMemory) ⊎ (f ≡ errors.NoMemory)) }
+    ensures spelled { (bytes : List ℕ) (x : ExchangeTree) → IsText bytes x → IsSpelled x }
 {
     reading_laws();
     grammar_laws();

@@ -1,4 +1,5 @@
 use Rattle.p21_parse.proofs.OneMeaning.{apart, one_error}
+use Rattle.p21_parse.proofs.Followed.{text_spelled}
 use Rattle.p21_parse.proofs.reading.text_laws.Goals as goal
 
 pub returns-clause-apart : goal.returns-clause-apart
@@ -8,3 +9,6 @@ returns-clause-apart c =
 pub returns-clause-single : goal.returns-clause-single
 returns-clause-single c =
     λ bytes e f. one_error bytes (c.reading_laws.ensures.same bytes) (c.reading_laws.ensures.refused bytes) (c.grammar_laws.ensures.single bytes) (c.grammar_laws.ensures.allowed bytes) e f
+
+pub returns-clause-spelled : goal.returns-clause-spelled
+returns-clause-spelled c = text_spelled
