@@ -287,7 +287,7 @@ fn numbers_and_counts_are_looked_at(rt: HostRuntime) -> Result<(), Fail> {
     for (count, last, invalid) in [
         (199_999, 300_000, None),
         (199_999, 1, Some(BuildErr::Invalid(199_999))),
-        (200_001, 300_000, Some(BuildErr::Invalid(200_000))),
+        (200_000, 300_000, Some(BuildErr::Invalid(200_000))),
     ] {
         let answer = Exchange::of(alloc, many(alloc, count, last)?);
         assert_eq!(rt; answer.err(), invalid, "{count} {last}");

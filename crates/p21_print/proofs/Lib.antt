@@ -1,0 +1,9 @@
+pub mod Parted
+pub mod Plainly
+pub mod Placed
+pub mod ReadsBack
+pub mod Adding
+pub mod Trees
+pub mod Sizes
+pub mod Listing
+pub mod Filing

@@ -1,0 +1,138 @@
+use super::*;
+use nc_base::{NcText, NoMemory};
+use p21_parse::{
+    Exchange, Instance, InstanceList, Param, ParamList, Part, PartList, ReadErr, read,
+};
+use std::alloc::{AllocError, Global};
+use std::process::Abort;
+use std::test::Fail;
+
+// A file with blanks and comments that no printed text has, and the same as it is printed.
+const HEAD: &[u8] =
+    b"ISO-10303-21; HEADER;/* by hand */FILE_DESCRIPTION ( ( '' ) , '2;1' );FILE_NAME('A','',(''),(''),'','','');\r\nFILE_SCHEMA(('MACHINING_SCHEMA'));";
+
+const PRINTED_HEAD: &[u8] =
+    b"ISO-10303-21;\nHEADER;\nFILE_DESCRIPTION((''),'2;1');\nFILE_NAME('A','',(''),(''),'','','');\nFILE_SCHEMA(('MACHINING_SCHEMA'));\n";
+
+const MIDDLE: &[u8] = b"ENDSEC;\t\n\nDATA; ";
+
+const PRINTED_MIDDLE: &[u8] = b"ENDSEC;\nDATA;\n";
+
+const TAIL: &[u8] = b" ENDSEC;END-ISO-10303-21;\n\n";
+
+const PRINTED_TAIL: &[u8] = b"ENDSEC;\nEND-ISO-10303-21;\n";
+
+// Further entries of the header, instances, and how both are printed.
+const FILES: &[(&[u8], &[u8], &[u8], &[u8])] = &[
+    (b"", b"", b"", b""),
+    (
+        b"",
+        b"",
+        b"#05 = A ( .B. , 'it''s' , $ ) ;",
+        b"#5=A(.B.,'it''s',$);\n",
+    ),
+    (
+        b"!FURTHER ( 1 , ( ) );OTHER('a b');",
+        b"!FURTHER(1,());\nOTHER('a b');\n",
+        b"#7=A(*,\"0F\",'');#0000000000008=!A(.B_1.,!C(5.),#008);\n#2147483647=A(+1,-001,1.50E+03,((),(2,(#7)),((()))));",
+        b"#7=A(*,\"0F\",'');\n#8=!A(.B_1.,!C(5.),#8);\n#2147483647=A(+1,-001,1.50E+03,((),(2,(#7)),((()))));\n",
+    ),
+    (
+        b"",
+        b"",
+        b"#9 = ( A ( 3 ) B ( '' , '''' ) C ( ) ) ; #10 = ( A () ) ; #1=A();",
+        b"#9=(A(3)B('','''')C());\n#10=(A());\n#1=A();\n",
+    ),
+];
+
+fn joined(alloc: Global, pieces: &[&[u8]]) -> Result<Vec<u8>, AllocError> {
+    let mut text = Vec::new(alloc);
+    for piece in pieces {
+        text.extend_from_slice(piece)?;
+    }
+    Ok(text)
+}
+
+fn read_text(rt: &impl Abort, alloc: Global, text: &[u8]) -> Result<Exchange, ReadErr> {
+    assert!(rt; text.len() <= 268_435_456);
+    read(alloc, text)
+}
+
+#[test]
+fn what_is_read_is_printed_plainly(rt: HostRuntime) -> Result<(), Fail> {
+    let alloc = rt.alloc();
+    print_laws();
+    for (entries, printed_entries, instances, printed_instances) in FILES {
+        let written = joined(alloc, &[HEAD, *entries, MIDDLE, *instances, TAIL])?;
+        let plain = joined(
+            alloc,
+            &[
+                PRINTED_HEAD,
+                *printed_entries,
+                PRINTED_MIDDLE,
+                *printed_instances,
+                PRINTED_TAIL,
+            ],
+        )?;
+        let exchange = read_text(&rt, alloc, written.as_slice())?;
+        let printed = print(alloc, &exchange)?;
+        assert_eq!(rt; printed.as_slice(), plain.as_slice());
+        let again = read_text(&rt, alloc, printed.as_slice())?;
+        assert_eq!(rt; print(alloc, &again)?.as_slice(), plain.as_slice());
+    }
+    Ok(())
+}
+
+fn text(alloc: Global, bytes: &[u8]) -> Result<NcText, NoMemory> {
+    NcText::of(alloc, bytes)
+}
+
+// `A` with parameters that no text has: an open text, a number of letters, an empty enumeration, and a keyword with two.
+fn odd_part(alloc: Global) -> Result<Part, NoMemory> {
+    let mut inner = ParamList::new(alloc);
+    inner.push(Param::Unset)?;
+    inner.push(Param::Derived)?;
+    let mut parameters = ParamList::new(alloc);
+    parameters.push(Param::Text(text(alloc, b"'")?))?;
+    parameters.push(Param::Int(text(alloc, b"x ;")?))?;
+    parameters.push(Param::Enumeration(text(alloc, b"")?))?;
+    parameters.push(Param::Typed(text(alloc, b"T")?, inner))?;
+    parameters.push(Param::Reference(0))?;
+    Ok(Part {
+        keyword: text(alloc, b"A")?,
+        parameters,
+    })
+}
+
+// An instance of number 0 with two parts that are no complex one, and a complex one with no part.
+fn odd_exchange(alloc: Global) -> Result<Exchange, NoMemory> {
+    let mut parts = PartList::new(alloc);
+    parts.push(odd_part(alloc)?)?;
+    parts.push(odd_part(alloc)?)?;
+    let mut items = InstanceList::new(alloc);
+    items.push(Instance {
+        number: 0,
+        complex: false,
+        parts,
+    })?;
+    items.push(Instance {
+        number: u32::MAX,
+        complex: true,
+        parts: PartList::new(alloc),
+    })?;
+    Ok(Exchange {
+        head: PartList::new(alloc),
+        items,
+    })
+}
+
+#[test]
+fn what_no_text_has_is_printed_too(rt: HostRuntime) -> Result<(), Fail> {
+    let alloc = rt.alloc();
+    let printed = print(alloc, &odd_exchange(alloc)?)?;
+    assert_eq!(rt;
+        printed.as_slice(),
+        b"ISO-10303-21;\nHEADER;\nENDSEC;\nDATA;\n#0=A(''',x ;,..,T($,*),#0)A(''',x ;,..,T($,*),#0);\n#4294967295=();\nENDSEC;\nEND-ISO-10303-21;\n".as_slice()
+    );
+    Ok(())
+}
