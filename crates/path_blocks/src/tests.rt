@@ -1,3 +1,10 @@
+ghost use Rattle.std.specs.Prelude.{◌≡◌, pos, negsuc, true, false};
+ghost use Rattle.path_blocks.specs.declared.block.Block.TheVariants as blocks;
+ghost use Rattle.path_blocks.specs.declared.def.Shape.TheVariants as shapes;
+ghost use Rattle.path_blocks.specs.Kind.{is_drill, is_plane, is_pocket};
+ghost use Rattle.path_blocks.specs.Range.{is_within, is_course, fits_shape};
+ghost use Rattle.path_blocks.specs.WithinPocket.{StaysWithin};
+
 use super::*;
 use std::test::Fail;
 
@@ -154,7 +161,53 @@ fn cuts_of_a_whole(rt: HostRuntime) -> Result<(), Fail> {
     assert_eq!(rt; cut(19, 100, 5), 100);
     assert_eq!(rt; cut_count(50, 100), 2);
     assert_eq!(rt; cut(50, 100, 1), 100);
+    assert_eq!(rt; cut(50, 100, 0), 50);
+    assert_eq!(rt; cut_count(100, 100), 1);
+    assert_eq!(rt; cut_count(99, 100), 2);
+    assert_eq!(rt; cut_count(1, 1), 1);
     assert_eq!(rt; cut_count(200, 100), 1);
     assert_eq!(rt; cut(200, 100, 0), 100);
     Ok(())
+}
+
+// The ranges of numbers and of shapes, at their ends.
+fn ranges()
+    ensures least { is_within (negsuc 199999999) ≡ true }
+    ensures below { is_within (negsuc 200000000) ≡ false }
+    ensures greatest { is_within (pos 200000000) ≡ true }
+    ensures above { is_within (pos 200000001) ≡ false }
+    ensures along_x { is_course (pos 1) (pos 0) ≡ true }
+    ensures against_y { is_course (pos 0) (negsuc 0) ≡ true }
+    ensures slanted { is_course (pos 1) (pos 1) ≡ false }
+    ensures nowhere { is_course (pos 0) (pos 0) ≡ false }
+    ensures no_unit { is_course (pos 2) (pos 0) ≡ false }
+    ensures no_dwell { fits_shape (shapes.Drill (pos 0) (pos 0) (pos 0)) ≡ true }
+    ensures dwell_before_now { fits_shape (shapes.Drill (pos 0) (pos 0) (negsuc 0)) ≡ false }
+    ensures least_face { fits_shape (shapes.Plane (pos 0) (pos 0) (negsuc 0) (pos 0) (pos 1) (pos 1) (pos 1) true) ≡ true }
+    ensures no_length { fits_shape (shapes.Plane (pos 0) (pos 0) (negsuc 0) (pos 0) (pos 0) (pos 1) (pos 1) true) ≡ false }
+    ensures no_width { fits_shape (shapes.Plane (pos 0) (pos 0) (negsuc 0) (pos 0) (pos 1) (pos 0) (pos 1) true) ≡ false }
+    ensures no_step { fits_shape (shapes.Plane (pos 0) (pos 0) (negsuc 0) (pos 0) (pos 1) (pos 1) (pos 0) true) ≡ false }
+    ensures point { fits_shape (shapes.Pocket (pos 5) (pos 0) (pos 5) (pos 0) (pos 1)) ≡ true }
+    ensures left_past_right { fits_shape (shapes.Pocket (pos 6) (pos 0) (pos 5) (pos 0) (pos 1)) ≡ false }
+    ensures low_past_high { fits_shape (shapes.Pocket (pos 5) (pos 1) (pos 5) (pos 0) (pos 1)) ≡ false }
+    ensures no_radial { fits_shape (shapes.Pocket (pos 5) (pos 0) (pos 5) (pos 0) (pos 0)) ≡ false }
+{}
+
+// Which shape is which, and where the feeds of a pocket from (0, 1) to (4, 3) with its bottom at -2 may go.
+fn kinds_and_places()
+    ensures drill { is_drill (shapes.Drill (pos 0) (pos 0) (pos 0)) ≡ true }
+    ensures no_plane { is_plane (shapes.Drill (pos 0) (pos 0) (pos 0)) ≡ false }
+    ensures no_pocket { is_pocket (shapes.Drill (pos 0) (pos 0) (pos 0)) ≡ false }
+    ensures pocket { is_pocket (shapes.Pocket (pos 5) (pos 0) (pos 5) (pos 0) (pos 1)) ≡ true }
+    ensures corner { StaysWithin (negsuc 1) (shapes.Pocket (pos 0) (pos 1) (pos 4) (pos 3) (pos 1)) (blocks.Feed (pos 4) (pos 1) (negsuc 1) (pos 40)) }
+    ensures rapid { StaysWithin (negsuc 1) (shapes.Pocket (pos 0) (pos 1) (pos 4) (pos 3) (pos 1)) (blocks.Rapid (pos 9) (pos 9) (pos 9)) }
+    ensures too_far { StaysWithin (negsuc 1) (shapes.Pocket (pos 0) (pos 1) (pos 4) (pos 3) (pos 1)) (blocks.Feed (pos 5) (pos 1) (negsuc 1) (pos 40)) → ⊥ }
+    ensures too_low { StaysWithin (negsuc 1) (shapes.Pocket (pos 0) (pos 1) (pos 4) (pos 3) (pos 1)) (blocks.Feed (pos 4) (pos 0) (negsuc 1) (pos 40)) → ⊥ }
+    ensures too_deep { StaysWithin (negsuc 1) (shapes.Pocket (pos 0) (pos 1) (pos 4) (pos 3) (pos 1)) (blocks.Feed (pos 4) (pos 1) (negsuc 2) (pos 40)) → ⊥ }
+{}
+
+#[test]
+fn definitions_are_worked_out() {
+    ranges();
+    kinds_and_places();
 }

@@ -1,10 +1,12 @@
 //! The path of a drilled hole.
 #![tactic(auto)]
 
-ghost use Rattle.std.specs.Prelude.{◌≡◌, ◌++◌, IfOk, IsTrue, OnOk};
+ghost use Rattle.std.specs.Prelude.{◌≡◌, ◌++◌, All, IfOk, IsTrue, OnOk};
 ghost use Rattle.path_blocks.specs.Kind.{is_drill};
 ghost use Rattle.path_blocks.specs.Numbers.{numbers_of};
+ghost use Rattle.path_blocks.specs.Path.{path_of};
 ghost use Rattle.path_blocks.specs.PathDrill.{down_into, dwell_blocks, path_drill, up_from};
+ghost use Rattle.path_drill.specs.OverHole.{StaysOver};
 
 use nc_base::NoMemory;
 use path_blocks::{Block, Def, Plan, Shape};
@@ -60,10 +62,12 @@ fn blocks_of(alloc: Global, def: &Def, x: i64, y: i64, dwell: i64) -> Result<Vec
 }
 
 /// The path of a definition whose shape is a drilled hole: over the place, down to the retract plane, feed to the bottom,
-/// dwell there if the definition says so, and back up. The rule is this profile's.
+/// dwell there if the definition says so, and back up. Every move stays over the hole's place, and no feed goes below its bottom.
+/// The rule is this profile's.
 pub fn path(alloc: Global, def: &Def) -> Result<Plan, NoMemory>
     requires { IsTrue (is_drill def.now.shape) }
-    ensures { IfOk result (λ plan. plan ≡ def.now) }
+    ensures exact { IfOk result (λ plan. plan ≡ def.now) }
+    ensures over { IfOk result (λ plan. All (StaysOver def.now.bottom def.now.shape) (path_of plan)) }
 {
     match def.shape {
         Shape::Drill { x, y, dwell } => Ok(Plan::new(*def, blocks_of(alloc, def, x, y, dwell)?)),

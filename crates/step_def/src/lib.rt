@@ -4,8 +4,15 @@
 
 mod check;
 mod definition;
+mod face;
 mod fault;
 mod found;
+mod hole;
+mod number;
+mod placement;
+mod pocket;
+mod reference;
+mod tool;
 mod walk;
 
 pub use definition::{is_workingstep, resolve};
