@@ -39,10 +39,46 @@ fn copies_and_uses(rt: HostRuntime) -> Result<(), Fail> {
 
 #[test]
 fn keywords(rt: HostRuntime) {
-    assert_eq!(rt; class_of(b"EXCHANGE_PALLET").code(), 12);
-    assert_eq!(rt; class_of(b"!NC_SUM").code(), 26);
-    assert_eq!(rt; class_of(b"AXIS2_PLACEMENT_3D").code(), 38);
-    assert_eq!(rt; class_of(b"plane").code(), 61);
+    let rows: [(&[u8], u8); 12] = [
+        (b"PROJECT", 1),
+        (b"EXCHANGE_PALLET", 12),
+        (b"!NC_SUM", 26),
+        (b"NC_SUM", 61),
+        (b"PLANE", 37),
+        (b"PLANE_", 61),
+        (b"PLAN", 61),
+        (b"AXIS2_PLACEMENT_3D", 38),
+        (b"PLANE_ROUGH_MILLING", 45),
+        (b"NUMERIC_PARAMETER", 60),
+        (b"plane", 61),
+        (b"", 61),
+    ];
+    for (keyword, code) in rows {
+        assert_eq!(rt; class_of(keyword).code(), code, "of {keyword:?}");
+    }
+}
+
+// The used positions of a class.
+const POSITIONS: [(Class, &[u8]); 5] = [
+    (Class::Workplan, &[2, 3]),
+    (Class::SetMark, &[]),
+    (Class::ClosedPocket, &[4, 5, 11]),
+    (
+        Class::BottomAndSideRoughMilling,
+        &[1, 4, 6, 7, 13, 14, 15, 16],
+    ),
+    (Class::Opaque, &[]),
+];
+
+#[test]
+fn positions(rt: HostRuntime) {
+    for (class, want) in POSITIONS {
+        let positions = used(class);
+        assert_eq!(rt; positions.len(), want.len());
+        for (found, position) in positions.iter().zip(want.iter()) {
+            assert_eq!(rt; found.position, *position);
+        }
+    }
 }
 
 // Which fields fit, at the edges of their kinds.
@@ -51,6 +87,8 @@ fn fitting()
     ensures flag { fields_fit classes.Drilling (Present ∷ Absent ∷ Absent ∷ Absent ∷ Absent ∷ []) ≡ true }
     ensures limit { fields_fit classes.NcConstant (Value (pos 1000000000000000) ∷ []) ≡ true }
     ensures low_limit { fields_fit classes.NcConstant (Value (negsuc 999999999999999) ∷ []) ≡ true }
+    ensures reference_as_length { fields_fit classes.RoundHole (Absent ∷ Absent ∷ Ref 9 ∷ []) ≡ true }
+    ensures number_as_length { fields_fit classes.RoundHole (Ref 9 ∷ Absent ∷ Value (pos 10000) ∷ []) ≡ true }
     ensures two_numbers { fields_fit classes.Direction (Values 2 (pos 1) (negsuc 0) (pos 0) ∷ []) ≡ true }
 {}
 
@@ -62,6 +100,9 @@ fn unfitting()
     ensures field_too_many { fields_fit classes.SetMark (Absent ∷ []) ≡ false }
     ensures no_flag { fields_fit classes.Project (Present ∷ []) ≡ false }
     ensures past_the_limit { fields_fit classes.NcConstant (Value (pos 1000000000000001) ∷ []) ≡ false }
+    ensures past_the_low_limit { fields_fit classes.NcConstant (Value (negsuc 1000000000000000) ∷ []) ≡ false }
+    ensures reference_as_number { fields_fit classes.NcConstant (Ref 9 ∷ []) ≡ false }
+    ensures number_as_reference { fields_fit classes.RoundHole (Value (pos 0) ∷ Absent ∷ Absent ∷ []) ≡ false }
     ensures no_numbers { fields_fit classes.Direction (Values 0 (pos 0) (pos 0) (pos 0) ∷ []) ≡ false }
     ensures four_numbers { fields_fit classes.Direction (Values 4 (pos 0) (pos 0) (pos 0) ∷ []) ≡ false }
     ensures past_the_count { fields_fit classes.Direction (Values 1 (pos 0) (pos 1) (pos 0) ∷ []) ≡ false }

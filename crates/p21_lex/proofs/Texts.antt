@@ -1,13 +1,15 @@
 -- Texts, binaries and comments: what is found up to the closing mark is an inside and the mark, and such an inside is found again.
 use Rattle.std.proofs.Common.{◌≡◌, ℕ, zero, suc, ◌+◌, ◌<◌, ◌≤◌, Bool, true, false, cond, eqb, ◌||◌, ◌&&◌, List, [], ◌∷◌, ◌++◌, length, take, drop, Result, Ok, Err, refl, sym, ap, subst, ◌∙◌, inl, inr, arith}
 use Rattle.std.specs.Prelude.{nat_eq, IsTrue}
-use Rattle.std.specs.List.{starts_with}
+use Rattle.std.specs.List.{prefix_len, starts_with}
 use Rattle.std.proofs.lemmas.Bool.{eqb-true}
+use Rattle.std.proofs.lemmas.List.{drop_all}
 use Rattle.std.proofs.lemmas.Bool.Decides.{nat_tests}
 use Rattle.p21_lex.specs.declared.scan.Unclosed.{Unclosed}
 use Rattle.p21_lex.specs.declared.scan.Unclosed.TheVariants.{Cut, Bad}
 use Rattle.p21_lex.specs.Class.{is_hex, is_legal, Each, NotFirst}
 use Rattle.p21_lex.specs.Scan.{shifted, text_end, binary_end, comment_end}
+use Rattle.p21_lex.proofs.Runs.{one_more}
 use Rattle.p21_lex.specs.Reading.{IsInside, IsCommentInside, has_end}
 
 abbrev pub done : ℕ → Result ℕ Unclosed
@@ -134,6 +136,32 @@ binary_passes b rest hex = rw (hex_is_no_mark b hex, hex) refl
 pub binary_again : (inside rest : List ℕ) → Each is_hex inside → binary_end (inside ++ 34 ∷ rest) ≡ done (suc (length inside))
 binary_again [] rest h = binary_ends rest
 binary_again (b ∷ bs) rest h = binary_passes b (bs ++ 34 ∷ rest) h.0 ∙ ap (shifted 1) (binary_again bs rest h.1) ∙ ap done (omega arith)
+
+-- how a binary ends that has so many digits and then these bytes
+abbrev pub ended : ℕ → List ℕ → Result ℕ Unclosed
+ended n [] = lost Cut
+ended n (b ∷ bs) = cond (eqb b 34) (done (n + 1)) (lost (Bad n))
+
+ended_step : (n : ℕ) (x : Bool) → shifted 1 (cond x (done (n + 1)) (lost (Bad n))) ≡ cond x (done (1 + n + 1)) (lost (Bad (1 + n)))
+ended_step n true = ap done (omega arith)
+ended_step n false = refl
+
+ended_more : (n : ℕ) (rest : List ℕ) → shifted 1 (ended n rest) ≡ ended (1 + n) rest
+ended_more n [] = refl
+ended_more n (b ∷ bs) = ended_step n (eqb b 34)
+
+ended_with : (b : ℕ) (bs : List ℕ) (n : ℕ) (z : Bool) → is_hex b ≡ z → binary_end bs ≡ ended n (drop n bs) → binary_end (b ∷ bs) ≡ ended (cond z (1 + n) 0) (drop (cond z (1 + n) 0) (b ∷ bs))
+unfolding binary_end
+ended_with b bs n true e h = binary_passes b bs e ∙ ap (shifted 1) h ∙ ended_more n (drop n bs) ∙ ap (λ (k : ℕ). ended (1 + n) (drop k (b ∷ bs))) (sym (one_more n))
+ended_with b bs n false e h = rw e refl
+
+pub binary_ended : (bytes : List ℕ) → binary_end bytes ≡ ended (prefix_len is_hex bytes) (drop (prefix_len is_hex bytes) bytes)
+unfolding binary_end
+binary_ended [] = refl
+binary_ended (b ∷ bs) = ended_with b bs (prefix_len is_hex bs) (is_hex b) refl (binary_ended bs)
+
+pub binary_open : (bytes : List ℕ) → length bytes ≤ prefix_len is_hex bytes → binary_end bytes ≡ lost Cut
+binary_open bytes h = binary_ended bytes ∙ ap (ended (prefix_len is_hex bytes)) (drop_all (prefix_len is_hex bytes) bytes h)
 
 -- ---- comments
 

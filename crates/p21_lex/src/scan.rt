@@ -3,7 +3,7 @@
 ghost use Rattle.std.specs.Prelude.{◌≡◌, ◌≤◌, length, MatchResult};
 ghost use Rattle.p21_lex.specs.Scan.{text_end, binary_end, comment_end, IsBelow};
 
-use crate::class::{is_hex, is_legal};
+use crate::class::{hex_len, is_legal};
 
 /// Why what was opened has no end: the bytes end, or a byte may not stand there.
 #[derive(Clone, Copy, Debug, PartialEq, Eq)]
@@ -37,24 +37,16 @@ pub fn text_end(bytes: &[u8]) -> Result<usize, Unclosed>
 }
 
 /// How many bytes behind the opening quotation mark a binary has, with its closing one.
-#[tactic(auto, using(crate::proofs::Shifts::shifted_none, crate::proofs::Shifts::shifted_more), unfolding(crate::specs::Scan::binary_end))]
+#[tactic(auto, using(crate::proofs::Texts::binary_ended, crate::proofs::Texts::binary_open))]
 pub fn binary_end(bytes: &[u8]) -> Result<usize, Unclosed>
     ensures exact { result ≡ binary_end bytes.now }
     ensures within { MatchResult result (λ len. len ≤ length bytes.now) (IsBelow (length bytes.now)) }
 {
-    let mut rest = bytes;
-    loop {
-        let seen = bytes.len() - rest.len();
-        match rest {
-            [] => return Err(Unclosed::Cut),
-            [b'"', ..] => return Ok(seen + 1),
-            [byte, after @ ..] => {
-                if !is_hex(*byte) {
-                    return Err(Unclosed::Bad(seen));
-                }
-                rest = after;
-            }
-        }
+    let digits = hex_len(bytes);
+    match &bytes[digits..] {
+        [] => Err(Unclosed::Cut),
+        [b'"', ..] => Ok(digits + 1),
+        _ => Err(Unclosed::Bad(digits)),
     }
 }
 

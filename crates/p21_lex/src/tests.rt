@@ -52,7 +52,7 @@ const WORDS: [Row<'static>; 20] = [
     (b"(&", &[], Some(BadByte(1))),
 ];
 
-const NUMBERS: [Row<'static>; 24] = [
+const NUMBERS: [Row<'static>; 28] = [
     // Names.
     (
         b"#1=#02",
@@ -82,6 +82,10 @@ const NUMBERS: [Row<'static>; 24] = [
     (b"1.E", &[(Real, 0, 2), (Word, 2, 3)], None),
     (b"1.E2E3", &[(Real, 0, 4), (Word, 4, 6)], None),
     (b"1.E+", &[], Some(BadByte(3))),
+    (b"1.E-", &[(Real, 0, 2), (Word, 2, 4)], None),
+    (b"1..T.", &[(Real, 0, 2), (Enumeration, 2, 5)], None),
+    (b"-0 -0.", &[(Int, 0, 2), (Real, 3, 6)], None),
+    (b".5", &[], Some(BadByte(0))),
     (b"1E5", &[(Int, 0, 1), (Word, 1, 3)], None),
     (b"A.-5.", &[], Some(BadByte(1))),
     (b"-", &[], Some(BadByte(0))),
@@ -113,7 +117,7 @@ const NUMBERS: [Row<'static>; 24] = [
     ),
 ];
 
-const TEXTS: [Row<'static>; 16] = [
+const TEXTS: [Row<'static>; 21] = [
     // Texts.
     (b"''", &[(Text, 0, 2)], None),
     (b"''''", &[(Text, 0, 4)], None),
@@ -127,10 +131,15 @@ const TEXTS: [Row<'static>; 16] = [
     (b"'''", &[], Some(OpenString(0))),
     (b"'a\x01", &[], Some(BadByte(2))),
     (b"'a''\x01b'", &[], Some(BadByte(4))),
+    (b"'a''b'',''c'", &[(Text, 0, 12)], None),
+    (b"'\r\n\xff'/*\t\xff*/", &[(Text, 0, 5)], None),
+    (b"'\x1f'", &[], Some(BadByte(1))),
     // Binaries and enumerations.
     (b"\"0A9F\"\"\"", &[(Binary, 0, 6), (Binary, 6, 8)], None),
     (b"A\"0", &[], Some(OpenString(1))),
     (b"\"0G", &[], Some(BadByte(2))),
+    (b"\"0\n\"", &[], Some(BadByte(2))),
+    (b"\"\"\"", &[], Some(OpenString(2))),
     (
         b".T..U_9.",
         &[(Enumeration, 0, 3), (Enumeration, 3, 8)],

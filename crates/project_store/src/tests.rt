@@ -18,11 +18,15 @@ fn opaque(alloc: Global, number: Number) -> Entity
     }
 }
 
-fn workplan(alloc: Global, number: Number) -> Result<Entity, NoMemory>
+fn workplan(alloc: Global, number: Number, elements: &[Number]) -> Result<Entity, NoMemory>
     ensures { IfOk result (λ entity. entity.number ≡ number) }
 {
+    let mut numbers = NumberList::new(alloc);
+    for element in elements {
+        numbers.push(*element)?;
+    }
     let mut fields = FieldList::new(alloc);
-    fields.push(Field::Refs(NumberList::new(alloc)))?;
+    fields.push(Field::Refs(numbers))?;
     fields.push(Field::Absent)?;
     Ok(Entity {
         number,
@@ -75,24 +79,45 @@ fn faults(rt: HostRuntime) -> Result<(), Fail> {
     let many = build(
         alloc,
         one(alloc, 1, Class::Project, 2)?,
-        workplan(alloc, 2)?,
+        workplan(alloc, 2, &[])?,
         one(alloc, 9, Class::Project, 2)?,
     );
     assert_eq!(rt; many.err(), Some(StoreErr::ManyProjects(1)));
     let missing = build(
         alloc,
         one(alloc, 1, Class::Project, 66)?,
-        workplan(alloc, 2)?,
+        workplan(alloc, 2, &[])?,
         one(alloc, 9, Class::Plane, 77)?,
     );
     assert_eq!(rt; missing.err(), Some(StoreErr::Unresolved(1, 66)));
     let wrong = build(
         alloc,
         one(alloc, 1, Class::Project, 9)?,
-        workplan(alloc, 2)?,
+        workplan(alloc, 2, &[])?,
         opaque(alloc, 9),
     );
     assert_eq!(rt; wrong.err(), Some(StoreErr::WrongKind(1, 2)));
+    Ok(())
+}
+
+// The least number counts, then the place in a list, and what is missing comes before what is of the wrong kind.
+#[test]
+fn first_faults(rt: HostRuntime) -> Result<(), Fail> {
+    let alloc = rt.alloc();
+    let missing = build(
+        alloc,
+        one(alloc, 1, Class::Project, 2)?,
+        workplan(alloc, 2, &[2, 66, 55])?,
+        one(alloc, 9, Class::Plane, 77)?,
+    );
+    assert_eq!(rt; missing.err(), Some(StoreErr::Unresolved(2, 66)));
+    let both = build(
+        alloc,
+        one(alloc, 1, Class::Project, 9)?,
+        workplan(alloc, 2, &[9])?,
+        one(alloc, 9, Class::Plane, 77)?,
+    );
+    assert_eq!(rt; both.err(), Some(StoreErr::Unresolved(9, 77)));
     Ok(())
 }
 
@@ -102,7 +127,7 @@ fn closures_and_overlays(rt: HostRuntime) -> Result<(), Fail> {
     let store = build(
         alloc,
         one(alloc, 1, Class::Project, 2)?,
-        workplan(alloc, 2)?,
+        workplan(alloc, 2, &[])?,
         one(alloc, 9, Class::Plane, 9)?,
     )?
     .copy(alloc)?;

@@ -4,7 +4,7 @@ const LONGEST: i64 = 1_000_000_000_000_000;
 
 #[test]
 fn edges(rt: HostRuntime) {
-    let cases: [(&[u8], Result<i64, UnitErr>); 59] = [
+    let cases: [(&[u8], Result<i64, UnitErr>); 65] = [
         // Int and Real, and the signs.
         (b"0", Ok(0)),
         (b"5", Ok(5000)),
@@ -12,7 +12,11 @@ fn edges(rt: HostRuntime) {
         (b"-5", Ok(-5000)),
         (b"007", Ok(7000)),
         (b"1.", Ok(1000)),
+        (b"-0", Ok(0)),
         (b"-0.", Ok(0)),
+        (b"0.5E1", Ok(5000)),
+        (b"0.E-0", Ok(0)),
+        (b"2147483647", Ok(2_147_483_647_000)),
         (b"+12.5", Ok(12500)),
         (b"1.E+2", Ok(100_000)),
         (b"1.E2", Ok(100_000)),
@@ -22,6 +26,7 @@ fn edges(rt: HostRuntime) {
         (b"0.0005", Ok(1)),
         (b"-0.0005", Ok(-1)),
         (b"0.00049", Ok(0)),
+        (b"-0.00049", Ok(0)),
         (b"0.0015", Ok(2)),
         (b"-0.0025", Ok(-3)),
         (b"0.0014999", Ok(1)),
@@ -76,6 +81,7 @@ fn edges(rt: HostRuntime) {
         // No numbers.
         (b"", Err(UnitErr::NotNumber)),
         (b"+", Err(UnitErr::NotNumber)),
+        (b"+.5", Err(UnitErr::NotNumber)),
         (b"-", Err(UnitErr::NotNumber)),
         (b"--1", Err(UnitErr::NotNumber)),
         (b".", Err(UnitErr::NotNumber)),
