@@ -136,3 +136,37 @@ fn what_no_text_has_is_printed_too(rt: HostRuntime) -> Result<(), Fail> {
     );
     Ok(())
 }
+
+// What an exchange is printed as that was made of the instance below.
+const MADE: &[u8] =
+    b"ISO-10303-21;\nHEADER;\nFILE_DESCRIPTION((''),'2;1');\nFILE_NAME('','',(''),(''),'','','');\nFILE_SCHEMA((''));\nENDSEC;\nDATA;\n#5=A(#7);\nENDSEC;\nEND-ISO-10303-21;\n";
+
+// An instance that refers to another, which need not be there.
+fn referring(alloc: Global) -> Result<Instance, NoMemory> {
+    let mut parameters = ParamList::new(alloc);
+    parameters.push(Param::Reference(7))?;
+    let mut parts = PartList::new(alloc);
+    parts.push(Part {
+        keyword: text(alloc, b"A")?,
+        parameters,
+    })?;
+    Ok(Instance {
+        number: 5,
+        complex: false,
+        parts,
+    })
+}
+
+#[test]
+fn what_is_made_of_instances_is_printed_and_read_back(rt: HostRuntime) -> Result<(), Fail> {
+    let alloc = rt.alloc();
+    let mut items = InstanceList::new(alloc);
+    items.push(referring(alloc)?)?;
+    let made = Exchange::of(alloc, items)?;
+    let printed = print(alloc, &made)?;
+    assert_eq!(rt; printed.as_slice(), MADE);
+    let again = read_text(&rt, alloc, printed.as_slice())?;
+    assert_eq!(rt; again.items.len(), 1);
+    assert_eq!(rt; print(alloc, &again)?.as_slice(), MADE);
+    Ok(())
+}
