@@ -15,10 +15,14 @@ fn is_rising(numbers: &[Number]) -> bool
     numbers.windows(2).all(|pair| pair[0] < pair[1])
 }
 
-/// Whether no number stands twice. It sorts a copy of the numbers.
+/// Whether no number stands twice. Numbers that rise, as those of most files do, are looked at once; of others a copy is sorted.
+/// Nothing is hashed, so no choice of numbers makes it slower.
 pub fn are_distinct(alloc: Global, numbers: &[Number]) -> Result<bool, NoMemory>
     ensures { IfOk result (λ yes. IsTrue yes ↔ IsDistinct nat_eq numbers.now) }
 {
+    if is_rising(numbers) {
+        return Ok(true);
+    }
     let mut sorted = Vec::from_slice(alloc, numbers)?;
     sorted.sort()?;
     Ok(is_rising(sorted.as_slice()))

@@ -32,7 +32,8 @@ impl<T> ItemList<T> {
         }
     }
 
-    /// The empty list with room for so many items, so that pushing them takes no more memory.
+    /// The empty list, with room reserved for so many items where memory allows. The room is a hint for speed: contracts see
+    /// the items alone, so none promises that pushing as many takes no memory.
     pub fn with_capacity(alloc: Global, capacity: u32) -> Result<Self, NoMemory>
         ensures { IfOk result (λ list. list ≡ []) }
     {

@@ -6,8 +6,11 @@ use crate::memory::NoMemory;
 use std::alloc::Global;
 use std::marker::Model;
 
-/// The number of an instance, as it stands behind the `#` of its name (ISO 10303-21, entity instance names).
+/// The number of an instance, as it stands behind the `#` of its name (ISO 10303-21, entity instance names): 1 to `MAX_NUMBER`.
 pub type Number = u32;
+
+/// The greatest number of an instance, 2^31 - 1 (this profile).
+pub const MAX_NUMBER: Number = 2_147_483_647;
 
 /// A list of at most 4,294,967,295 numbers. It keeps the allocator that it was made with.
 #[derive(Debug, Drop)]
