@@ -1,4 +1,4 @@
-//! From the instances of an exchange to the entities of a project.
+//! From the instances of an exchange to the entities of a project. Its tests stand in the crate entity_tests.
 #![tactic(auto)]
 
 mod error;
@@ -8,6 +8,3 @@ mod reading;
 
 pub use error::TypeErr;
 pub use reading::typed;
-
-#[cfg(test)]
-mod tests;

@@ -51,7 +51,8 @@ fn fields_among(
     ensures value { Lists number (fields_among used.now (map tree_of params.now)) result }
     ensures fits { IfOk result (λ fields. IsTrue (all_fit used.now fields)) }
 {
-    let mut fields = FieldList::new(alloc);
+    // No class has more than 255 used positions; the room is a hint for speed.
+    let mut fields = FieldList::with_capacity(alloc, used.len().min(255) as u32)?;
     for used in used {
         match field_among(alloc, *used, params)? {
             Some(field) => fields.push(field)?,

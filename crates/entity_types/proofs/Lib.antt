@@ -1,1 +1,2 @@
 pub mod FitsLemmas
+pub mod KeywordLemmas

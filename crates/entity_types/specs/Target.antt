@@ -1,27 +1,28 @@
 -- Which classes a reference at a used position may refer to.
-use Rattle.std.specs.Prelude.{ℕ, Bool, true, ◌&&◌, ◌||◌, ◌==◌, nat_le}
+use Rattle.std.specs.Prelude.{ℕ, Bool, true, ◌&&◌, ◌||◌, nat_le}
 use Rattle.entity_types.specs.declared.class.Class.{Class}
+use Rattle.entity_types.specs.declared.class.Class.TheVariants.{Workplan, Note, Channel, NcVariable, NcConstant, SetMark, NcSum, NcProduct, ComparisonEqual, NotExpression, RoundHole, ClosedPocket, Drilling, BottomAndSideFinishMilling}
 use Rattle.entity_types.specs.declared.table.Target.{Target}
-use Rattle.entity_types.specs.declared.table.Target.TheVariants.{Any, Workplan, Executable, Channel, Variable, Mark, Value, Condition, Feature, Operation}
+use Rattle.entity_types.specs.declared.table.Target.TheVariants as to
 use Rattle.entity_types.specs.Class.{code_of}
 
 -- first to last, both included
 abbrev pub is_between : ℕ → ℕ → ℕ → Bool
 is_between first last code = nat_le first code && nat_le code last
 
--- the class of this number is one of the target
-abbrev pub accepts_code : Target → ℕ → Bool
-accepts_code Any code = true
-accepts_code Workplan code = code == 2
-accepts_code Executable code = is_between 2 12 code
-accepts_code Channel code = code == 13
-accepts_code Variable code = code == 14
-accepts_code Mark code = code == 9
-accepts_code Value code = is_between 14 15 code || is_between 26 28 code
-accepts_code Condition code = is_between 16 25 code
-accepts_code Feature code = is_between 29 31 code
-accepts_code Operation code = is_between 41 48 code
+-- a class from the first to the last of these, in the order of the table
+abbrev pub is_class_between : Class → Class → Class → Bool
+is_class_between first last class = is_between (code_of first) (code_of last) (code_of class)
 
 -- the class is one of the target
 abbrev pub accepts : Target → Class → Bool
-accepts target class = accepts_code target (code_of class)
+accepts to.Any class = true
+accepts to.Workplan class = is_class_between Workplan Workplan class
+accepts to.Executable class = is_class_between Workplan Note class
+accepts to.Channel class = is_class_between Channel Channel class
+accepts to.Variable class = is_class_between NcVariable NcVariable class
+accepts to.Mark class = is_class_between SetMark SetMark class
+accepts to.Value class = is_class_between NcVariable NcConstant class || is_class_between NcSum NcProduct class
+accepts to.Condition class = is_class_between ComparisonEqual NotExpression class
+accepts to.Feature class = is_class_between RoundHole ClosedPocket class
+accepts to.Operation class = is_class_between Drilling BottomAndSideFinishMilling class

@@ -2,6 +2,7 @@
 
 ghost use Rattle.std.specs.Prelude.{◌≡◌};
 ghost use Rattle.entity_types.specs.Class.{code_of};
+ghost use Rattle.entity_types.specs.Target.{is_class_between};
 
 /// What an instance is to this profile: one of 60 classes by its keyword, or `Opaque` for everything else. The classes and
 /// their keywords are this project's own choice after ISO 14649-10 and ISO 14649-11.
@@ -73,10 +74,17 @@ pub enum Class {
 }
 
 impl Class {
-    /// The number of the class, 1 to 61, as refusals of this profile write it.
+    /// The number of the class in this profile's table, 1 to 61. Classes that serve one purpose stand beside each other there.
     pub fn code(self) -> u8
         ensures { result ≡ code_of self }
     {
         self as u8
+    }
+
+    /// Whether the class stands from the first to the last of these in the table, both included.
+    pub fn is_between(self, first: Class, last: Class) -> bool
+        ensures { result ≡ is_class_between first last self }
+    {
+        first.code() <= self.code() && self.code() <= last.code()
     }
 }

@@ -1,10 +1,12 @@
-//! Keywords.
+//! The class that a keyword names.
 
 ghost use Rattle.std.specs.Prelude.{◌≡◌, map};
+ghost use Rattle.std.specs.Str.{bytes_eq};
 ghost use Rattle.entity_types.specs.Class.{class_of, class_among};
 
 use crate::class::Class;
 
+/// The keywords of this profile, in the order of the table of classes.
 static WORDS: [(&[u8], Class); 67] = [
     (b"PROJECT", Class::Project),
     (b"WORKPLAN", Class::Workplan),
@@ -84,11 +86,19 @@ static WORDS: [(&[u8], Class); 67] = [
     (b"NUMERIC_PARAMETER", Class::NumericParameter),
 ];
 
+/// Whether a keyword is this word. Most words have another length, so few are compared byte by byte.
+fn is_word(keyword: &[u8], word: &[u8]) -> bool
+    ensures { result ≡ bytes_eq keyword.now word.now }
+{
+    keyword.len() == word.len() && keyword == word
+}
+
+/// The class of the first row with this keyword.
 fn class_among(rows: &[(&[u8], Class)], keyword: &[u8]) -> Class
     ensures { result ≡ class_among (map (λ row. (row.0.now, row.1)) rows.now) keyword.now }
 {
     for row in rows {
-        if keyword == row.0 {
+        if is_word(keyword, row.0) {
             return row.1;
         }
     }

@@ -50,18 +50,22 @@ impl Target {
     pub fn accepts(self, class: Class) -> bool
         ensures { result ≡ accepts self class }
     {
-        let code = class.code();
         match self {
             Target::Any => true,
-            Target::Workplan => code == 2,
-            Target::Executable => 2 <= code && code <= 12,
-            Target::Channel => code == 13,
-            Target::Variable => code == 14,
-            Target::Mark => code == 9,
-            Target::Value => 14 <= code && code <= 15 || 26 <= code && code <= 28,
-            Target::Condition => 16 <= code && code <= 25,
-            Target::Feature => 29 <= code && code <= 31,
-            Target::Operation => 41 <= code && code <= 48,
+            Target::Workplan => class.is_between(Class::Workplan, Class::Workplan),
+            Target::Executable => class.is_between(Class::Workplan, Class::Note),
+            Target::Channel => class.is_between(Class::Channel, Class::Channel),
+            Target::Variable => class.is_between(Class::NcVariable, Class::NcVariable),
+            Target::Mark => class.is_between(Class::SetMark, Class::SetMark),
+            Target::Value => {
+                class.is_between(Class::NcVariable, Class::NcConstant)
+                    || class.is_between(Class::NcSum, Class::NcProduct)
+            }
+            Target::Condition => class.is_between(Class::ComparisonEqual, Class::NotExpression),
+            Target::Feature => class.is_between(Class::RoundHole, Class::ClosedPocket),
+            Target::Operation => {
+                class.is_between(Class::Drilling, Class::BottomAndSideFinishMilling)
+            }
         }
     }
 }

@@ -1,4 +1,4 @@
-//! Numbers of instances, and lists of them.
+//! Numbers of instances, lists of them, and how great a value may be.
 
 ghost use Rattle.std.specs.Prelude.{◌≡◌, ◌+◌, ◌<◌, [], ◌∷◌, ◌++◌, length, OnOk, OnErr, IfSome, IsNone, IfNone, IfOk, ◌↔◌, IsTrue, slice_get, Some};
 
@@ -11,6 +11,9 @@ pub type Number = u32;
 
 /// The greatest number of an instance, 2^31 - 1 (this profile).
 pub const MAX_NUMBER: Number = 2_147_483_647;
+
+/// The greatest size of a value that a project writes or works out, in thousandths of its unit: 10^15 (this profile).
+pub const MAX_VALUE: u64 = 1_000_000_000_000_000;
 
 /// A list of at most 4,294,967,295 numbers. It keeps the allocator that it was made with.
 #[derive(Debug, Drop)]

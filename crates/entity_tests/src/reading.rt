@@ -1,5 +1,8 @@
-use super::*;
-use nc_base::{ItemList, NcText, NoMemory};
+//! Instances as entities: each class and position of the table, written by hand after the profile's table.
+
+use crate::expect::expect;
+use entity_read::{TypeErr, typed};
+use nc_base::{NcText, NoMemory};
 use p21_parse::{Instance, Param, ParamList, Part, PartList};
 use std::alloc::Global;
 use std::test::Fail;
@@ -478,12 +481,13 @@ fn instance(alloc: Global, row: &Row, at: u8, other: &[u8]) -> Result<Instance, 
     })
 }
 
+// The number of an instance's class, or why it has none. It says nothing, so that tests go on without what `typed` promises.
+fn code(alloc: Global, instance: &Instance) -> Result<u8, TypeErr> {
+    Ok(typed(alloc, instance)?.class.code())
+}
+
 fn code_of(alloc: Global, row: &Row, at: u8, other: &[u8]) -> Result<u8, TypeErr> {
-    Ok(
-        typed(alloc, &instance(alloc, row, at, other)?)?
-            .class
-            .code(),
-    )
+    code(alloc, &instance(alloc, row, at, other)?)
 }
 
 #[test]
@@ -507,6 +511,12 @@ fn each_class_and_position(rt: HostRuntime) -> Result<(), Fail> {
     Ok(())
 }
 
+const PLANE: Row = Row {
+    keyword: b"PLANE",
+    code: 37,
+    positions: &[(2, b'R')],
+};
+
 #[test]
 fn what_is_opaque(rt: HostRuntime) -> Result<(), Fail> {
     let alloc = rt.alloc();
@@ -515,33 +525,37 @@ fn what_is_opaque(rt: HostRuntime) -> Result<(), Fail> {
         code: 61,
         positions: &[],
     };
-    assert_eq!(rt; code_of(alloc, &row, 0, b"$"), Ok(61));
-    let plane = Row {
-        keyword: b"PLANE",
-        code: 37,
-        positions: &[(2, b'R')],
-    };
-    let mut complex = instance(alloc, &plane, 0, b"$")?;
+    expect(&rt, code_of(alloc, &row, 0, b"$"), Ok(61));
+    let mut complex = instance(alloc, &PLANE, 0, b"$")?;
     complex.complex = true;
-    assert_eq!(rt; typed(alloc, &complex)?.class.code(), 61);
-    let mut two = instance(alloc, &plane, 0, b"$")?;
-    two.parts.push(part(alloc, &plane, 0, b"$")?)?;
-    assert_eq!(rt; typed(alloc, &two)?.class.code(), 61);
-    let none: ItemList<Part> = ItemList::new(alloc);
-    let empty = Instance {
+    expect(&rt, code(alloc, &complex), Ok(61));
+    Ok(())
+}
+
+#[test]
+fn what_has_not_one_part_is_opaque(rt: HostRuntime) -> Result<(), Fail> {
+    let alloc = rt.alloc();
+    let mut two = instance(alloc, &PLANE, 0, b"$")?;
+    two.parts.push(part(alloc, &PLANE, 0, b"$")?)?;
+    expect(&rt, code(alloc, &two), Ok(61));
+    let none = Instance {
         number: 70,
         complex: false,
-        parts: none,
+        parts: PartList::new(alloc),
     };
-    assert_eq!(rt; typed(alloc, &empty)?.class.code(), 61);
+    expect(&rt, code(alloc, &none), Ok(61));
+    Ok(())
+}
+
+#[test]
+fn a_position_past_the_last_parameter_is_unset(rt: HostRuntime) -> Result<(), Fail> {
+    let alloc = rt.alloc();
     let short = Row {
         keyword: b"CARTESIAN_POINT",
         code: 39,
         positions: &[],
     };
-    assert_eq!(rt;
-        code_of(alloc, &short, 0, b"$"),
-        Err(TypeErr::BadAttribute(70, 2))
-    );
+    let bad = Err(TypeErr::BadAttribute(70, 2));
+    expect(&rt, code_of(alloc, &short, 0, b"$"), bad);
     Ok(())
 }

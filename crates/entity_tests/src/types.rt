@@ -1,45 +1,66 @@
+//! Classes, used positions, targets and fields.
+
 ghost use Rattle.std.specs.Prelude.{◌≡◌, true, false, pos, negsuc, [], ◌∷◌};
 ghost use Rattle.entity_types.specs.Fits.{fields_fit};
 ghost use Rattle.entity_types.specs.declared.class.Class.TheVariants as classes;
 ghost use Rattle.entity_types.specs.declared.field.Field.TheVariants.{Absent, Present, Ref, Value, Refs, Values};
 
-use super::*;
-use nc_base::NumberList;
+use crate::expect::expect;
+use entity_types::{Class, Edit, Entity, EntityList, Field, FieldList, Target, class_of, used};
+use nc_base::{MAX_NUMBER, NoMemory, NumberList};
+use std::alloc::Global;
+use std::process::Abort;
 use std::test::Fail;
 
-#[test]
-fn copies_and_uses(rt: HostRuntime) -> Result<(), Fail> {
-    let alloc = rt.alloc();
+// A workplan of two elements, with a channel.
+fn workplan(alloc: Global) -> Result<Entity, NoMemory> {
     let mut elements = NumberList::new(alloc);
     elements.push(10)?;
     elements.push(11)?;
     let mut fields = FieldList::new(alloc);
     fields.push(Field::Refs(elements))?;
     fields.push(Field::Ref(8))?;
-    let workplan = Entity {
+    Ok(Entity {
         number: 2,
         class: Class::Workplan,
         fields,
-    };
-    assert_eq!(rt; workplan.uses(alloc)?.as_slice(), [10, 11, 8].as_slice());
-    assert!(rt; matches!(workplan.field(3), Some(Field::Ref(8))));
-    assert!(rt; workplan.field(1).is_none());
+    })
+}
+
+// Stops unless it is such a workplan.
+fn expect_workplan(rt: &impl Abort, alloc: Global, entity: &Entity) -> Result<(), Fail> {
+    assert_eq!(rt; entity.class, Class::Workplan);
+    assert_eq!(rt; entity.uses(alloc)?.as_slice(), [10, 11, 8].as_slice());
+    Ok(())
+}
+
+// An edit that puts a copy of the entity from the seventh entry on.
+fn edit_of(alloc: Global, entity: &Entity) -> Result<Edit, NoMemory> {
     let mut items = EntityList::new(alloc);
-    items.push(workplan.copy(alloc)?)?;
-    let edit = Edit { at: 7, items };
-    let copy = edit.copy(alloc)?;
-    assert_eq!(rt; copy.at, 7);
-    assert_eq!(rt; copy.items.len(), 1);
+    items.push(entity.copy(alloc)?)?;
+    Ok(Edit { at: 7, items })
+}
+
+#[test]
+fn copies_and_uses(rt: HostRuntime) -> Result<(), Fail> {
+    let alloc = rt.alloc();
+    let plan = workplan(alloc)?;
+    expect_workplan(&rt, alloc, &plan)?;
+    expect(&rt, plan.number, 2);
+    expect(&rt, matches!(plan.field(3), Some(Field::Ref(8))), true);
+    expect(&rt, plan.field(1).is_none(), true);
+    let copy = edit_of(alloc, &plan)?.copy(alloc)?;
+    expect(&rt, copy.at, 7);
+    expect(&rt, copy.items.len(), 1);
     for item in copy.items.as_slice() {
-        assert_eq!(rt; item.class, Class::Workplan);
-        assert_eq!(rt; item.uses(alloc)?.as_slice(), [10, 11, 8].as_slice());
+        expect_workplan(&rt, alloc, item)?;
     }
     Ok(())
 }
 
 #[test]
 fn keywords(rt: HostRuntime) {
-    let rows: [(&[u8], u8); 12] = [
+    let rows: [(&[u8], u8); 16] = [
         (b"PROJECT", 1),
         (b"EXCHANGE_PALLET", 12),
         (b"!NC_SUM", 26),
@@ -52,6 +73,10 @@ fn keywords(rt: HostRuntime) {
         (b"NUMERIC_PARAMETER", 60),
         (b"plane", 61),
         (b"", 61),
+        (b"PLANF", 61),
+        (b"!NC_SUN", 61),
+        (b"BOTTOM_AND_SIDE_FINISH_MILLING", 48),
+        (b"BOTTOM_AND_SIDE_FINISH_MILLING_", 61),
     ];
     for (keyword, code) in rows {
         assert_eq!(rt; class_of(keyword).code(), code, "of {keyword:?}");
@@ -114,9 +139,9 @@ fn fields_of_kinds(rt: HostRuntime) -> Result<(), Fail> {
     unfitting();
     let mut numbers = NumberList::new(rt.alloc());
     numbers.push(8)?;
-    numbers.push(2_147_483_647)?;
+    numbers.push(MAX_NUMBER)?;
     let copy = Field::Refs(numbers).copy(rt.alloc())?;
-    assert_eq!(rt; copy.references(), [8, 2_147_483_647].as_slice());
+    assert_eq!(rt; copy.references(), [8, MAX_NUMBER].as_slice());
     Ok(())
 }
 
