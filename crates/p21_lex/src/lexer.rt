@@ -10,7 +10,7 @@ ghost use Rattle.p21_lex.specs.declared.token.Token.{Token};
 ghost use Rattle.p21_lex.specs.declared.token.TokenKind.{TokenKind};
 
 use crate::error::LexErr;
-use crate::piece::{Piece, front};
+use crate::piece::{Piece, next_piece};
 use crate::token::Token;
 use std::alloc::Global;
 
@@ -41,7 +41,7 @@ fn all(alloc: Global, bytes: &[u8]) -> Result<Vec<Token>, LexErr>
     let mut at: u32 = 0;
     let mut rest = bytes;
     while !rest.is_empty() {
-        let piece = front(at, rest)?;
+        let piece = next_piece(at, rest)?;
         let len = piece.len();
         add(&mut found, at, piece)?;
         at += len as u32;
@@ -51,7 +51,10 @@ fn all(alloc: Global, bytes: &[u8]) -> Result<Vec<Token>, LexErr>
 }
 
 /// The tokens of a text (ISO 10303-21, clear text encoding) in their order, each as long as its form allows; blanks and
-/// comments between them are left out. The error is the first from left to right.
+/// comments between them are left out.
+///
+/// # Errors
+/// The first fault from left to right. Or want of memory.
 pub fn tokens(alloc: Global, bytes: &[u8]) -> Result<Vec<Token>, LexErr>
     requires { length bytes.now ≤ MAX_TEXT }
     // What is found reads the text.

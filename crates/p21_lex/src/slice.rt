@@ -9,7 +9,7 @@ ghost use Rattle.p21_lex.specs.declared.token.Token.{Token};
 
 use crate::error::LexErr;
 use crate::lexer::{MAX_TEXT, add};
-use crate::piece::{Piece, front};
+use crate::piece::{Piece, next_piece};
 use crate::token::{Token, TokenKind};
 use std::alloc::Global;
 
@@ -31,7 +31,7 @@ fn first_slice(alloc: Global, bytes: &[u8], least: u32) -> Result<(Vec<Token>, u
     let mut at: u32 = 0;
     let mut rest = bytes;
     while !rest.is_empty() {
-        let piece = front(at, rest)?;
+        let piece = next_piece(at, rest)?;
         let len = piece.len();
         add(&mut found, at, piece)?;
         at += len as u32;
