@@ -1,13 +1,15 @@
 -- The value of digits, as far as it is counted.
-use Rattle.std.proofs.Common.{◌≡◌, ℕ, ◌+◌, ◌-◌, ◌*◌, ◌<◌, min, Bool, List, take, length, get_or, All, ap, ◌∙◌, arith}
-use Rattle.std.specs.Prelude.{IsTrue}
+use Rattle.std.proofs.Common.{◌≡◌, ℕ, ◌+◌, ◌-◌, ◌*◌, ◌<◌, ◌≤◌, min, Bool, List, take, length, get_or, All, ap, sym, ◌∙◌, arith}
+use Rattle.std.specs.Prelude.{IsTrue, count_by, nat_lt}
 use Rattle.std.specs.List.{prefix_len}
 use Rattle.std.specs.Char.{digit_value}
 use Rattle.std.specs.Str.Parse.{digits_value}
 use Rattle.std.proofs.lemmas.Int.Digits.{digits_value_more}
+use Rattle.std.proofs.lemmas.Bool.{le-ltb}
 use Rattle.std.proofs.lemmas.Bool.Decides.{nat_tests}
 use Rattle.std.proofs.lemmas.List.{get_or-take, length-take}
-use Rattle.std.proofs.lemmas.List.Sums.{prefix_len_passes}
+use Rattle.std.proofs.lemmas.List.Sums.{prefix_len_passes, count_by-le-length}
+use Rattle.p21_lex.specs.declared.number.TheConstants.{MAX_DIGITS}
 use Rattle.p21_lex.specs.Class.{is_digit}
 
 digit_is : (b : ℕ) → IsTrue (is_digit b) → digit_value b ≡ b - 48
@@ -26,3 +28,7 @@ pub run_passes : (class : ℕ → Bool) (bytes : List ℕ) → All (λ b. IsTrue
 run_passes class bytes k d lt =
     let le : k < prefix_len class bytes = omega (arith, length-take (prefix_len class bytes) bytes) in
     rw (get_or-take (prefix_len class bytes) bytes k d le) (prefix_len_passes class bytes k d le)
+
+-- where there are few bytes, there are few digits
+pub few_digits : (bytes : List ℕ) → length bytes ≤ MAX_DIGITS → nat_lt MAX_DIGITS (length bytes) ≡ nat_lt MAX_DIGITS (count_by is_digit bytes)
+few_digits bytes few = le-ltb MAX_DIGITS (length bytes) few ∙ sym (le-ltb MAX_DIGITS (count_by is_digit bytes) (omega (arith, few, count_by-le-length is_digit bytes)))

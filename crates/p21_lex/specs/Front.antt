@@ -2,6 +2,7 @@
 use Rattle.std.specs.Prelude.{ℕ, ◌+◌, ◌&&◌, ◌||◌, ◌==◌, nat_lt, nat_le, if◌then◌else◌, List, [], ◌∷◌, take, drop, slice_index, count_by, Option, Some, None, Result, Ok, Err}
 use Rattle.std.specs.List.{prefix_len}
 use Rattle.std.specs.Str.Parse.{digits_value}
+use Rattle.p21_lex.specs.declared.number.TheConstants.{MAX_DIGITS, MAX_NAME}
 use Rattle.p21_lex.specs.declared.error.LexErr.{LexErr}
 use Rattle.p21_lex.specs.declared.error.LexErr.TheVariants.{BadByte, BadName, OpenString, OpenComment, NumberTooLong}
 use Rattle.p21_lex.specs.declared.token.TokenKind.{TokenKind}
@@ -20,7 +21,7 @@ number at bytes =
     let whole = int_len bytes in
     let len = whole + fraction_len (drop whole bytes) in
     if whole == 0 then Err (BadByte at)
-    else (if nat_lt 38 (count_by is_digit (take len bytes)) then Err (NumberTooLong at)
+    else (if nat_lt MAX_DIGITS (count_by is_digit (take len bytes)) then Err (NumberTooLong at)
     else Ok (Spelling (if fraction_len (drop whole bytes) == 0 then kinds.Int else kinds.Real) len))
 
 -- a name, behind its mark
@@ -29,7 +30,7 @@ name at bytes =
     let digits = digits_len bytes in
     let value = digits_value 10 (take digits bytes) in
     if digits == 0 then Err (BadByte at)
-    else (if nat_le 1 value && nat_le value 2147483647 then Ok (Spelling kinds.Name (1 + digits)) else Err (BadName at))
+    else (if nat_le 1 value && nat_le value MAX_NAME then Ok (Spelling kinds.Name (1 + digits)) else Err (BadName at))
 
 -- a user's keyword, behind its mark
 unfoldable pub user_word : ℕ → List ℕ → Result Piece LexErr

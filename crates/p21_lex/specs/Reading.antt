@@ -2,6 +2,7 @@
 -- its form allows (ISO 10303-21, clear text encoding: tokens). Nothing here scans.
 use Rattle.std.specs.Prelude.{◌≡◌, ℕ, ◌+◌, ◌<◌, ◌≤◌, Bool, false, ◌&&◌, ◌||◌, ◌==◌, nat_eq, ◌⊎◌, List, [], ◌∷◌, ◌++◌, length, take, drop, count_by, slice_range, IsTrue}
 use Rattle.std.specs.List.{concat, starts_with, list_any, AllByRecursion}
+use Rattle.p21_lex.specs.declared.number.TheConstants.{MAX_DIGITS, MAX_NAME}
 use Rattle.p21_lex.specs.declared.token.TokenKind.{TokenKind}
 use Rattle.p21_lex.specs.declared.token.TokenKind.TheVariants.{Word, UserWord, Name, Int, Real, Text, Enumeration, Binary, Open, Close, Comma, Semicolon, Equals, Dollar, Star}
 use Rattle.p21_lex.specs.declared.token.Token.{Token}
@@ -42,7 +43,7 @@ pub record IsReal (text : List ℕ) : Type 0 where
 
 -- at most 38 digits, those of a fraction and an exponent among them (this profile)
 abbrev pub IsShort : List ℕ → Type 0
-IsShort text = count_by is_digit text ≤ 38
+IsShort text = count_by is_digit text ≤ MAX_DIGITS
 
 -- the inside of a text: an apostrophe stands twice (ISO 10303-21: string)
 abbrev pub IsInside : List ℕ → Type 0
@@ -58,7 +59,7 @@ IsBetween byte Inside text = (inside : List ℕ) × (text ≡ byte ∷ (inside +
 abbrev pub Spells : TokenKind → List ℕ → Type 0
 Spells Word text = IsKeyword is_word text
 Spells UserWord text = (word : List ℕ) × (text ≡ 33 ∷ word) × IsKeyword is_plain word
-Spells Name text = (digits : List ℕ) × (text ≡ 35 ∷ digits) × IsDigits digits × (1 ≤ name_value text) × (name_value text ≤ 2147483647)
+Spells Name text = (digits : List ℕ) × (text ≡ 35 ∷ digits) × IsDigits digits × (1 ≤ name_value text) × (name_value text ≤ MAX_NAME)
 Spells Int text = IsInt text × IsShort text
 Spells Real text = IsReal text × IsShort text
 Spells Text text = IsBetween 39 IsInside text

@@ -2,6 +2,7 @@
 use Rattle.std.specs.Prelude.{◌≡◌, ℕ, ◌+◌, ◌<◌, Bool, false, ◌||◌, ◌==◌, ◌⊎◌, List, [], ◌∷◌, ◌++◌, length, count_by, IsTrue}
 use Rattle.std.specs.List.{concat, list_any, AllByRecursion}
 use Rattle.std.specs.Str.Parse.{digits_value}
+use Rattle.p21_lex.specs.declared.number.TheConstants.{MAX_DIGITS, MAX_NAME}
 use Rattle.p21_lex.specs.declared.error.LexErr.{LexErr}
 use Rattle.p21_lex.specs.declared.error.LexErr.TheVariants.{BadByte, BadName, OpenString, OpenComment, NumberTooLong, NoMemory}
 use Rattle.p21_lex.specs.declared.token.TokenKind.TheVariants as kinds
@@ -47,13 +48,13 @@ IsFault at bytes (BadByte place) =
     ⊎ IsSpoilt (47 ∷ 42 ∷ []) IsCommentInside is_legal n bytes)))
 IsFault at bytes (BadName place) =
     (place ≡ at) × (digits : List ℕ) × (rest : List ℕ) × (bytes ≡ 35 ∷ (digits ++ rest)) × IsDigits digits × NotFirst is_digit rest
-    × ((digits_value 10 digits ≡ 0) ⊎ (2147483647 < digits_value 10 digits))
+    × ((digits_value 10 digits ≡ 0) ⊎ (MAX_NAME < digits_value 10 digits))
 IsFault at bytes (OpenString place) =
     (place ≡ at) × (inside : List ℕ) × (((bytes ≡ 39 ∷ inside) × IsInside inside) ⊎ ((bytes ≡ 34 ∷ inside) × Each is_hex inside))
 IsFault at bytes (OpenComment place) = (place ≡ at) × (inside : List ℕ) × (bytes ≡ 47 ∷ 42 ∷ inside) × IsCommentInside inside
 IsFault at bytes (NumberTooLong place) =
     (place ≡ at) × (text : List ℕ) × (rest : List ℕ) × (bytes ≡ text ++ rest)
-    × ((IsInt text × Stops kinds.Int text rest) ⊎ (IsReal text × Stops kinds.Real text rest)) × (38 < count_by is_digit text)
+    × ((IsInt text × Stops kinds.Int text rest) ⊎ (IsReal text × Stops kinds.Real text rest)) × (MAX_DIGITS < count_by is_digit text)
 IsFault at bytes NoMemory = ⊥
 
 -- Tokens read the bytes, of which the first lies at a place, up to another place, and there stands this fault.

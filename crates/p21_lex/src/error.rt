@@ -12,7 +12,7 @@ pub enum LexErr {
     /// No token begins at this byte, or a text, a binary or a comment may not hold it.
     #[error("no token at byte {0}")]
     BadByte(u32),
-    /// The name at this place has the value 0, or one above 2,147,483,647.
+    /// The name at this place has the value 0, or one above `MAX_NAME`.
     #[error("the name at byte {0} is out of range")]
     BadName(u32),
     /// The bytes end within the text or binary that begins at this place.
@@ -21,7 +21,7 @@ pub enum LexErr {
     /// The bytes end within the comment that begins at this place.
     #[error("the comment at byte {0} has no end")]
     OpenComment(u32),
-    /// The number at this place has more than 38 digits.
+    /// The number at this place has more than `MAX_DIGITS` digits.
     #[error("the number at byte {0} has more than 38 digits")]
     NumberTooLong(u32),
     /// Memory ran out.

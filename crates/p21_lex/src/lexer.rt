@@ -10,13 +10,16 @@ ghost use Rattle.p21_lex.specs.declared.token.Token.{Token};
 ghost use Rattle.p21_lex.specs.declared.token.TokenKind.{TokenKind};
 
 use crate::error::LexErr;
-use crate::piece::{Piece, front};
+use crate::piece::{Piece, next_piece};
 use crate::token::Token;
 use std::alloc::Global;
 
+/// How many bytes a text has at most, 256 MiB, so that each place in it is a `u32` with room to spare (this profile).
+pub const MAX_TEXT: u32 = 268_435_456;
+
 /// Adds the token of a piece that lies at a place; a gap adds none.
-fn add(found: &mut Vec<Token>, at: u32, piece: Piece) -> Result<(), LexErr>
-    requires { at + piece_len piece ≤ 268435456 }
+pub fn add(found: &mut Vec<Token>, at: u32, piece: Piece) -> Result<(), LexErr>
+    requires { at + piece_len piece ≤ MAX_TEXT }
     ensures added { OnOk result (found.new.items ≡ found.old.items ++ piece_tokens at piece) }
     ensures memory { IfErr result (λ e. e ≡ LexErr.NoMemory) }
 {
@@ -31,14 +34,14 @@ fn add(found: &mut Vec<Token>, at: u32, piece: Piece) -> Result<(), LexErr>
 }
 
 fn all(alloc: Global, bytes: &[u8]) -> Result<Vec<Token>, LexErr>
-    requires { length bytes.now ≤ 268435456 }
+    requires { length bytes.now ≤ MAX_TEXT }
     ensures { Gives (λ v. v.items) result (tokens_of bytes.now) }
 {
     let mut found = Vec::new(alloc);
     let mut at: u32 = 0;
     let mut rest = bytes;
     while !rest.is_empty() {
-        let piece = front(at, rest)?;
+        let piece = next_piece(at, rest)?;
         let len = piece.len();
         add(&mut found, at, piece)?;
         at += len as u32;
@@ -48,9 +51,12 @@ fn all(alloc: Global, bytes: &[u8]) -> Result<Vec<Token>, LexErr>
 }
 
 /// The tokens of a text (ISO 10303-21, clear text encoding) in their order, each as long as its form allows; blanks and
-/// comments between them are left out. The error is the first from left to right.
+/// comments between them are left out.
+///
+/// # Errors
+/// The first fault from left to right. Or want of memory.
 pub fn tokens(alloc: Global, bytes: &[u8]) -> Result<Vec<Token>, LexErr>
-    requires { length bytes.now ≤ 268435456 }
+    requires { length bytes.now ≤ MAX_TEXT }
     // What is found reads the text.
     ensures found { IfOk result (λ v. Reads 0 v.items bytes.now) }
     // What reads the text is found, unless memory runs out.

@@ -1,4 +1,15 @@
-//! The tokens of ISO 10303-21 clear text.
+//! The tokens of ISO 10303-21 clear text: where each lies, and the first fault of a text that has none.
+//!
+//! | module | what is in it | calls |
+//! |---|---|---|
+//! | lexer | the tokens of a whole text, and the laws that tie them to the grammar of tokens | `tokens`, `tokens_fit`, `reading_laws`, `MAX_TEXT` |
+//! | slice | the tokens of a text's first slice, and where it ends | `slice_tokens` |
+//! | piece | what stands at the front of a text, and whether a text is one token | `next_piece`, `spells`, `Piece` |
+//! | token | the kinds of token, and a token's place | `Token`, `TokenKind` |
+//! | number | how far a number goes, and what a name's digits say | `name_number`, `MAX_NAME`, `MAX_DIGITS` |
+//! | class | classes of bytes | `is_upper`, `is_plain`, `is_hex`, `is_legal` |
+//! | scan | where texts, binaries and comments end | none |
+//! | error | why a text has no tokens | `LexErr` |
 #![tactic(auto)]
 
 mod class;
@@ -7,13 +18,13 @@ mod lexer;
 mod number;
 mod piece;
 mod scan;
+mod slice;
 mod token;
 
+pub use class::{is_hex, is_legal, is_plain, is_upper};
 pub use error::LexErr;
-pub use lexer::{reading_laws, tokens, tokens_fit};
-pub use number::name_number;
-pub use piece::{Piece, front, spells};
+pub use lexer::{MAX_TEXT, reading_laws, tokens, tokens_fit};
+pub use number::{MAX_DIGITS, MAX_NAME, name_number};
+pub use piece::{Piece, next_piece, spells};
+pub use slice::slice_tokens;
 pub use token::{Token, TokenKind};
-
-#[cfg(test)]
-mod tests;

@@ -9,8 +9,11 @@ ghost use Rattle.p21_lex.specs.Reading.{Spells};
 use crate::class::digits_len;
 use crate::token::TokenKind;
 
-/// The greatest value of a name.
+/// The greatest value of a name (this profile).
 pub const MAX_NAME: u64 = 2_147_483_647;
+
+/// How many digits a number has at most, those of a fraction and an exponent among them (this profile).
+pub const MAX_DIGITS: usize = 38;
 
 fn sign_len(bytes: &[u8]) -> usize
     ensures exact { result ≡ sign_len bytes.now }
@@ -58,7 +61,7 @@ pub fn fraction_len(bytes: &[u8]) -> usize
 #[tactic(auto, using(crate::proofs::Values::capped_more))]
 pub fn capped_value(digits: &[u8]) -> u64
     requires { All (λ b. IsTrue (is_digit b)) digits.now }
-    ensures { result ≡ min (digits_value 10 digits.now) 2147483648 }
+    ensures { result ≡ min (digits_value 10 digits.now) (MAX_NAME + 1) }
 {
     let mut value: u64 = 0;
     for digit in digits {

@@ -1,8 +1,8 @@
 //! What stands at the front of a text.
 
-ghost use Rattle.std.specs.Prelude.{◌≡◌, ◌↔◌, ℕ, ◌≤◌, ◌<◌, ◌+◌, ◌++◌, List, length, IfOk, IfErr, IsTrue, Ok, Err, count_by};
+ghost use Rattle.std.specs.Prelude.{◌≡◌, ◌↔◌, ℕ, ◌≤◌, ◌<◌, ◌+◌, ◌++◌, List, length, IfOk, IfErr, IsTrue, Ok, Err, count_by, nat_lt};
 ghost use Rattle.p21_lex.specs.Class.{is_digit};
-ghost use Rattle.p21_lex.specs.Front.{number, name, user_word, enumeration, closed, comment, mark, marked, front, piece_len};
+ghost use Rattle.p21_lex.specs.Front.{number, name, user_word, enumeration, closed, comment, front, piece_len};
 ghost use Rattle.p21_lex.specs.Reading.{IsPiece, Spells, Stops};
 ghost use Rattle.p21_lex.specs.Refusal.{IsFault};
 ghost use Rattle.p21_lex.specs.Scan.{text_end, binary_end, IsBelow};
@@ -11,7 +11,8 @@ ghost use Rattle.p21_lex.specs.declared.token.TokenKind.{TokenKind};
 
 use crate::class::{digits_len, is_digit, is_upper, plain_len, word_len};
 use crate::error::LexErr;
-use crate::number::{MAX_NAME, capped_value, fraction_len, int_len};
+use crate::lexer::MAX_TEXT;
+use crate::number::{MAX_DIGITS, MAX_NAME, capped_value, fraction_len, int_len};
 use crate::scan::{Unclosed, binary_end, comment_end, text_end};
 use crate::token::TokenKind;
 
@@ -25,6 +26,7 @@ pub enum Piece {
 }
 
 impl Piece {
+    /// How many bytes it takes.
     pub fn len(self) -> usize
         ensures { result ≡ piece_len self }
     {
@@ -34,13 +36,17 @@ impl Piece {
     }
 }
 
-/// The digits that one number may have in all its parts.
-const MAX_DIGITS: usize = 38;
-
 fn digit_count(bytes: &[u8]) -> usize
     ensures { result ≡ count_by is_digit bytes.now }
 {
     bytes.iter().filter(|b| is_digit(**b)).count()
+}
+
+/// Whether more digits stand in the spelling of a number than one number may have. A spelling of few bytes is not looked at.
+fn is_too_long(bytes: &[u8]) -> bool
+    ensures { result ≡ nat_lt MAX_DIGITS (count_by is_digit bytes.now) }
+{
+    bytes.len() > MAX_DIGITS && digit_count(bytes) > MAX_DIGITS
 }
 
 #[tactic(auto, unfolding(crate::specs::Front::number))]
@@ -54,7 +60,7 @@ fn number(at: u32, bytes: &[u8]) -> Result<Piece, LexErr>
     }
     let fraction = fraction_len(&bytes[whole..]);
     let len = whole + fraction;
-    if digit_count(&bytes[..len]) > MAX_DIGITS {
+    if is_too_long(&bytes[..len]) {
         return Err(LexErr::NumberTooLong(at));
     }
     let kind = if fraction == 0 {
@@ -115,7 +121,7 @@ fn enumeration(at: u32, bytes: &[u8]) -> Result<Piece, LexErr>
 
 /// A text, behind its opening apostrophe.
 fn text(at: u32, bytes: &[u8]) -> Result<Piece, LexErr>
-    requires { at + length bytes.now < 268435456 }
+    requires { at + length bytes.now < MAX_TEXT }
     ensures exact { result ≡ closed TokenKind.Text at (text_end bytes.now) }
     ensures within { IfOk result (λ p. (0 < piece_len p) × (piece_len p ≤ 1 + length bytes.now)) }
 {
@@ -128,7 +134,7 @@ fn text(at: u32, bytes: &[u8]) -> Result<Piece, LexErr>
 
 /// A binary, behind its opening quotation mark.
 fn binary(at: u32, bytes: &[u8]) -> Result<Piece, LexErr>
-    requires { at + length bytes.now < 268435456 }
+    requires { at + length bytes.now < MAX_TEXT }
     ensures exact { result ≡ closed TokenKind.Binary at (binary_end bytes.now) }
     ensures within { IfOk result (λ p. (0 < piece_len p) × (piece_len p ≤ 1 + length bytes.now)) }
 {
@@ -142,7 +148,7 @@ fn binary(at: u32, bytes: &[u8]) -> Result<Piece, LexErr>
 /// A comment, behind its slash.
 #[tactic(auto, unfolding(crate::specs::Front::comment))]
 fn comment(at: u32, bytes: &[u8]) -> Result<Piece, LexErr>
-    requires { at + length bytes.now < 268435456 }
+    requires { at + length bytes.now < MAX_TEXT }
     ensures exact { result ≡ comment at bytes.now }
     ensures within { IfOk result (λ p. (0 < piece_len p) × (piece_len p ≤ 1 + length bytes.now)) }
 {
@@ -156,36 +162,9 @@ fn comment(at: u32, bytes: &[u8]) -> Result<Piece, LexErr>
     }
 }
 
-/// The kinds of one byte.
-#[tactic(auto, unfolding(crate::specs::Front::mark))]
-fn mark(byte: u8) -> Option<TokenKind>
-    ensures { result ≡ mark byte }
-{
-    match byte {
-        b'(' => Some(TokenKind::Open),
-        b')' => Some(TokenKind::Close),
-        b',' => Some(TokenKind::Comma),
-        b';' => Some(TokenKind::Semicolon),
-        b'=' => Some(TokenKind::Equals),
-        b'$' => Some(TokenKind::Dollar),
-        b'*' => Some(TokenKind::Star),
-        _ => None,
-    }
-}
-
-fn marked(at: u32, byte: u8) -> Result<Piece, LexErr>
-    ensures exact { result ≡ marked at (mark byte) }
-    ensures within { IfOk result (λ p. piece_len p ≡ 1) }
-{
-    match mark(byte) {
-        Some(kind) => Ok(Piece::Spelling(kind, 1)),
-        None => Err(LexErr::BadByte(at)),
-    }
-}
-
-#[tactic(auto, unfolding(crate::specs::Front::front))]
+#[tactic(auto, unfolding(crate::specs::Front::front, crate::specs::Front::mark))]
 fn piece_at(at: u32, bytes: &[u8]) -> Result<Piece, LexErr>
-    requires { at + length bytes.now ≤ 268435456 }
+    requires { at + length bytes.now ≤ MAX_TEXT }
     ensures exact { result ≡ front at bytes.now }
     ensures within { IfOk result (λ p. piece_len p ≤ length bytes.now) }
     ensures filled { 0 < length bytes.now → IfOk result (λ p. 0 < piece_len p) }
@@ -203,14 +182,24 @@ fn piece_at(at: u32, bytes: &[u8]) -> Result<Piece, LexErr>
         b'.' => enumeration(at, behind),
         b'"' => binary(at, behind),
         b'/' => comment(at, behind),
-        byte => marked(at, byte),
+        b'(' => Ok(Piece::Spelling(TokenKind::Open, 1)),
+        b')' => Ok(Piece::Spelling(TokenKind::Close, 1)),
+        b',' => Ok(Piece::Spelling(TokenKind::Comma, 1)),
+        b';' => Ok(Piece::Spelling(TokenKind::Semicolon, 1)),
+        b'=' => Ok(Piece::Spelling(TokenKind::Equals, 1)),
+        b'$' => Ok(Piece::Spelling(TokenKind::Dollar, 1)),
+        b'*' => Ok(Piece::Spelling(TokenKind::Star, 1)),
+        _ => Err(LexErr::BadByte(at)),
     }
 }
 
 /// What stands at the front of bytes of which the first lies at a place: a blank, a comment or a token, each token as
-/// long as its form allows, or why none of them does (ISO 10303-21, clear text encoding). An empty text has a gap of no bytes.
-pub fn front(at: u32, bytes: &[u8]) -> Result<Piece, LexErr>
-    requires { at + length bytes.now ≤ 268435456 }
+/// long as its form allows (ISO 10303-21, clear text encoding). An empty text has a gap of no bytes.
+///
+/// # Errors
+/// Why no blank, comment or token stands there.
+pub fn next_piece(at: u32, bytes: &[u8]) -> Result<Piece, LexErr>
+    requires { at + length bytes.now ≤ MAX_TEXT }
     // What is found there has the form of its kind.
     ensures found { 0 < length bytes.now → IfOk result (IsPiece bytes.now) }
     // What has the form, and does not go on, is found.
@@ -237,10 +226,10 @@ fn is_answer(answer: Result<Piece, LexErr>, piece: Piece) -> bool
     }
 }
 
-/// Whether a text is the spelling of a kind: all of it, and within the kind's range.
+/// Whether a text is the spelling of a kind: all of it, and within the kind's range (ISO 10303-21, tokens, with this profile's ranges).
 pub fn spells(kind: TokenKind, text: &[u8]) -> bool
-    requires { length text.now ≤ 268435456 }
+    requires { length text.now ≤ MAX_TEXT }
     ensures { IsTrue result ↔ Spells kind text.now }
 {
-    is_answer(front(0, text), Piece::Spelling(kind, text.len()))
+    is_answer(next_piece(0, text), Piece::Spelling(kind, text.len()))
 }

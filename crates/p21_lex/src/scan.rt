@@ -5,11 +5,12 @@ ghost use Rattle.p21_lex.specs.Scan.{text_end, binary_end, comment_end, IsBelow}
 
 use crate::class::{hex_len, is_legal};
 
-/// Why what was opened has no end: the bytes end, or a byte may not stand there.
-#[derive(Clone, Copy, Debug, PartialEq, Eq)]
+/// Why a text, a binary or a comment has no end.
+#[derive(Clone, Copy)]
 pub enum Unclosed {
+    /// The bytes end before its closing mark.
     Cut,
-    /// So many bytes on.
+    /// A byte that it may not hold: this many bytes behind its opening mark.
     Bad(usize),
 }
 

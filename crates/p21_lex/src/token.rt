@@ -5,11 +5,11 @@ pub enum TokenKind {
     Word,
     /// `!` and a letter, then letters and digits: `!NC_SUM`.
     UserWord,
-    /// `#` and digits, of a value from 1 to 2,147,483,647: `#10`.
+    /// `#` and digits, of a value from 1 to `MAX_NAME`: `#10`.
     Name,
-    /// Digits with or without a sign, at most 38: `-5`.
+    /// Digits with or without a sign, at most `MAX_DIGITS`: `-5`.
     Int,
-    /// An integer, a point, digits and perhaps an exponent, at most 38 digits in all: `1.5E-3`.
+    /// An integer, a point, digits and perhaps an exponent, at most `MAX_DIGITS` in all: `1.5E-3`.
     Real,
     /// Bytes between apostrophes, in which two apostrophes stand for one: `'it''s'`.
     Text,

@@ -8,7 +8,9 @@ use Rattle.units_um.specs.declared.number.Sign.{Sign}
 use Rattle.units_um.specs.declared.number.Sign.TheVariants.{Unsigned, Plus, Minus}
 use Rattle.units_um.specs.Number.{Number}
 use Rattle.units_um.specs.Reading.{reading}
-use Rattle.units_um.specs.Thousandths.{IsShort, digit_count, digit_limit, limit, size, signed, with_sign, rounded, in_range, value_of, thousandths_of}
+use Rattle.units_um.specs.declared.value.TheConstants.{MAX_DIGITS}
+use Rattle.units_um.specs.declared.rounding.TheConstants.{MAX_THOUSANDTHS}
+use Rattle.units_um.specs.Thousandths.{IsShort, digit_count, size, signed, with_sign, rounded, in_range, value_of, thousandths_of}
 use Rattle.units_um.proofs.OneReading.{read_again, read_takes}
 use Rattle.units_um.proofs.Scale.{past_limit, within_limit}
 
@@ -39,9 +41,9 @@ abbrev gives : ℕ → Sized
 gives x = Ok x
 
 -- a size is within the limit where it is given
-pub given_within : (x y : ℕ) → gives y ≡ in_range x → y ≤ limit
+pub given_within : (x y : ℕ) → gives y ≡ in_range x → y ≤ MAX_THOUSANDTHS
 given_within x y e =
-    elim (cases_lt limit x) [
+    elim (cases_lt MAX_THOUSANDTHS x) [
       | inl lt ↦ absurd (let past : fails OutOfRange ≡ in_range x = past_limit x lt in cc)
       | inr le ↦ (let same : gives x ≡ in_range x = within_limit x le in let is : y ≡ x = cc in rw is le)
     ]
@@ -52,40 +54,40 @@ pub gives_none : (text : List ℕ) → None ≡ reading text → Err NotNumber �
 unfolding value_of
 gives_none text none = rw (← none) refl
 
-pub gives_long : (text : List ℕ) (n : Number) → some n ≡ reading text → digit_limit < digit_count n → Err NotNumber ≡ thousandths_of text
+pub gives_long : (text : List ℕ) (n : Number) → some n ≡ reading text → MAX_DIGITS < digit_count n → Err NotNumber ≡ thousandths_of text
 unfolding value_of
-gives_long text n read long = rw (← read, lt-ltb digit_limit (digit_count n) long) refl
+gives_long text n read long = rw (← read, lt-ltb MAX_DIGITS (digit_count n) long) refl
 
-pub gives_short : (text : List ℕ) (n : Number) (r : Sized) → some n ≡ reading text → digit_count n ≤ digit_limit → r ≡ in_range (size n) → with_sign n.sign r ≡ thousandths_of text
+pub gives_short : (text : List ℕ) (n : Number) (r : Sized) → some n ≡ reading text → digit_count n ≤ MAX_DIGITS → r ≡ in_range (size n) → with_sign n.sign r ≡ thousandths_of text
 unfolding value_of
-gives_short text n r read short is = rw (← read, le-ltb digit_limit (digit_count n) short, is) refl
+gives_short text n r read short is = rw (← read, le-ltb MAX_DIGITS (digit_count n) short, is) refl
 
-gives_within : (text : List ℕ) (n : Number) → IsShort text n → size n ≤ limit → Ok (rounded n) ≡ thousandths_of text
+gives_within : (text : List ℕ) (n : Number) → IsShort text n → size n ≤ MAX_THOUSANDTHS → Ok (rounded n) ≡ thousandths_of text
 gives_within text n short le = gives_short text n (Ok (size n)) (sym (read_again text n short.spells)) short.digits (within_limit (size n) le)
 
-gives_past : (text : List ℕ) (n : Number) → IsShort text n → limit < size n → Err OutOfRange ≡ thousandths_of text
+gives_past : (text : List ℕ) (n : Number) → IsShort text n → MAX_THOUSANDTHS < size n → Err OutOfRange ≡ thousandths_of text
 gives_past text n short lt = gives_short text n (Err OutOfRange) (sym (read_again text n short.spells)) short.digits (past_limit (size n) lt)
 
 -- a text either is no number of few enough digits, or is one that is within the limit or past it
 pub data Case (text : List ℕ) : Type 0 where
   never : ((n : Number) → IsShort text n → ⊥) → Err NotNumber ≡ thousandths_of text → Case text
-  within : (n : Number) → IsShort text n → size n ≤ limit → Case text
-  past : (n : Number) → IsShort text n → limit < size n → Case text
+  within : (n : Number) → IsShort text n → size n ≤ MAX_THOUSANDTHS → Case text
+  past : (n : Number) → IsShort text n → MAX_THOUSANDTHS < size n → Case text
 
 case_read : (text : List ℕ) (o : Option Number) → o ≡ reading text → Case text
 case_read text None e =
     never (λ n short. let again : reading text ≡ some n = read_again text n short.spells in absurd cc) (gives_none text e)
 case_read text (Some n) e =
     let spells = read_takes text n (sym e) in
-    elim (cases_lt digit_limit (digit_count n)) [
+    elim (cases_lt MAX_DIGITS (digit_count n)) [
       | inl long ↦ never (λ m short.
           let again : reading text ≡ some m = read_again text m short.spells in
           let same : n ≡ m = cc in
-          let digits : digit_count n ≤ digit_limit = rw same short.digits in
+          let digits : digit_count n ≤ MAX_DIGITS = rw same short.digits in
           absurd (omega arith)) (gives_long text n e long)
       | inr few ↦
           let short : IsShort text n = record { spells = spells; digits = few } in
-          elim (cases_lt limit (size n)) [ inl lt ↦ past n short lt | inr le ↦ within n short le ]
+          elim (cases_lt MAX_THOUSANDTHS (size n)) [ inl lt ↦ past n short lt | inr le ↦ within n short le ]
     ]
 
 case_of : (text : List ℕ) → Case text
@@ -94,10 +96,10 @@ case_of text = case_read text (reading text) refl
 -- ---- the clauses
 
 abbrev IsValue : List ℕ → ℤ → Type 0
-IsValue text x = (n : Number) × IsShort text n × (rounded n ≡ x) × (nat_abs x ≤ limit)
+IsValue text x = (n : Number) × IsShort text n × (rounded n ≡ x) × (nat_abs x ≤ MAX_THOUSANDTHS)
 
 abbrev IsPast : List ℕ → Type 0
-IsPast text = (n : Number) × IsShort text n × (limit < nat_abs (rounded n))
+IsPast text = (n : Number) × IsShort text n × (MAX_THOUSANDTHS < nat_abs (rounded n))
 
 abbrev answers : ℤ → Answer
 answers x = Ok x
@@ -118,7 +120,7 @@ ok_where text r is x = (from (case_of text), to)
 
     to : IsValue text x → r ≡ answers x
     to (n, short, same, le) =
-        let small : size n ≤ limit = rw (size_signed n.sign (size n)) at (rw (← same) at le) in
+        let small : size n ≤ MAX_THOUSANDTHS = rw (size_signed n.sign (size n)) at (rw (← same) at le) in
         let other : answers (rounded n) ≡ thousandths_of text = gives_within text n short small in
         is ∙ sym other ∙ ap answers same
 
@@ -145,9 +147,9 @@ out_of_range_where text r is = (from (case_of text), to)
 
     to : IsPast text → r ≡ refuses OutOfRange
     to (n, short, lt) =
-        let far : limit < size n = rw (size_signed n.sign (size n)) at lt in
+        let far : MAX_THOUSANDTHS < size n = rw (size_signed n.sign (size n)) at lt in
         is ∙ sym (gives_past text n short far)
 
-pub ok_within : (text : List ℕ) (r : Answer) → r ≡ thousandths_of text → IfOk r (λ x. nat_abs x ≤ limit)
+pub ok_within : (text : List ℕ) (r : Answer) → r ≡ thousandths_of text → IfOk r (λ x. nat_abs x ≤ MAX_THOUSANDTHS)
 ok_within text (Ok x) is = ((ok_where text (answers x) is x).0 refl).3
 ok_within text (Err e) is = tt

@@ -57,12 +57,12 @@ room_left v n i most d room lt digit =
     omega arith
 
 -- so many digits have room from the start
-pub room_at_first : (n : ℕ) → n ≤ 38 → 1 * 10 ^ n ≤ 10 ^ 38
-room_at_first n le = omega (arith, power_grows n 38 le)
+pub room_at_first : (n most : ℕ) → n ≤ most → 1 * 10 ^ n ≤ 10 ^ most
+room_at_first n most le = omega (arith, power_grows n most le)
 
 -- and so have those that follow them
-pub room_behind : (v m n : ℕ) → v + 1 ≤ (0 + 1) * 10 ^ m → m + n ≤ 38 → (v + 1) * 10 ^ n ≤ 10 ^ 38
-room_behind v m n small le =
+pub room_behind : (v m n most : ℕ) → v + 1 ≤ (0 + 1) * 10 ^ m → m + n ≤ most → (v + 1) * 10 ^ n ≤ 10 ^ most
+room_behind v m n most small le =
     let product : (v + 1) * 10 ^ n ≤ 10 ^ m * 10 ^ n = mul-le (v + 1) (10 ^ n) (10 ^ m) (10 ^ n) (omega arith) (omega arith) in
     let power : 10 ^ (m + n) ≡ 10 ^ m * 10 ^ n = pow-add 10 m n in
-    omega (arith, power_grows (m + n) 38 le)
+    omega (arith, power_grows (m + n) most le)

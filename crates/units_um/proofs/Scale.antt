@@ -4,7 +4,8 @@ use Rattle.std.proofs.Math.Nat.{one-le-pow, pow-le-pow_right, mul-div-mul_left, 
 use Rattle.std.proofs.lemmas.Nat.{pow-add, mul-le, div-mul-add}
 use Rattle.std.proofs.lemmas.Bool.{lt-ltb, le-ltb}
 use Rattle.units_um.specs.declared.fault.UnitErr.TheVariants.{OutOfRange}
-use Rattle.units_um.specs.Thousandths.{nearest, limit, in_range}
+use Rattle.units_um.specs.declared.rounding.TheConstants.{MAX_THOUSANDTHS}
+use Rattle.units_um.specs.Thousandths.{nearest, in_range}
 
 pub power_grows : (i j : ℕ) → i ≤ j → 10 ^ i ≤ 10 ^ j
 power_grows i j le = pow-le-pow_right {n = 10} (omega arith) le
@@ -13,24 +14,24 @@ pub power_positive : (i : ℕ) → 0 < 10 ^ i
 power_positive i = omega (arith, one-le-pow i 10 (omega arith))
 
 -- past the limit
-pub past_limit : (x : ℕ) → limit < x → (Err OutOfRange) ≡ in_range x
+pub past_limit : (x : ℕ) → MAX_THOUSANDTHS < x → (Err OutOfRange) ≡ in_range x
 unfolding in_range
-past_limit x lt = rw (lt-ltb limit x lt) refl
+past_limit x lt = rw (lt-ltb MAX_THOUSANDTHS x lt) refl
 
 -- within the limit
-pub within_limit : (x : ℕ) → x ≤ limit → (Ok x) ≡ in_range x
+pub within_limit : (x : ℕ) → x ≤ MAX_THOUSANDTHS → (Ok x) ≡ in_range x
 unfolding in_range
-within_limit x le = rw (le-ltb limit x le) refl
+within_limit x le = rw (le-ltb MAX_THOUSANDTHS x le) refl
 
 -- a positive number of units past the limit is past it
-pub raised_far : (m by : ℕ) → 0 < m → 15 < by → limit < m * 10 ^ by
+pub raised_far : (m by : ℕ) → 0 < m → 15 < by → MAX_THOUSANDTHS < m * 10 ^ by
 raised_far m by pos far =
     let unit : 10 ^ 16 ≤ 10 ^ by = power_grows 16 by far in
     let product : 1 * 10 ^ by ≤ m * 10 ^ by = mul-le 1 (10 ^ by) m (10 ^ by) pos (omega arith) in
     omega arith
 
 -- a number past the limit stays past it
-pub raised_past : (m by : ℕ) → limit < m → limit < m * 10 ^ by
+pub raised_past : (m by : ℕ) → MAX_THOUSANDTHS < m → MAX_THOUSANDTHS < m * 10 ^ by
 raised_past m by lt =
     let product : m * 1 ≤ m * 10 ^ by = mul-le m 1 m (10 ^ by) (omega arith) (power_positive by) in
     omega arith

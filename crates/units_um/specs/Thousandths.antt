@@ -1,6 +1,8 @@
 -- The value of a written number in thousandths, as a fraction, and the whole number that is nearest to it.
 use Rattle.std.specs.Prelude.{ℕ, ◌≤◌, ◌+◌, ◌*◌, ◌/◌, ◌^◌, List, [], ◌++◌, length, Option, Some, None, Result, Ok, Err, nat_lt, if◌then◌else◌, ℤ, pos, neg_ℤ}
 use Rattle.std.specs.Str.Parse.{digits_value}
+use Rattle.units_um.specs.declared.value.TheConstants.{MAX_DIGITS}
+use Rattle.units_um.specs.declared.rounding.TheConstants.{MAX_THOUSANDTHS}
 use Rattle.units_um.specs.declared.number.Sign.{Sign}
 use Rattle.units_um.specs.declared.fault.UnitErr.{UnitErr}
 use Rattle.units_um.specs.declared.fault.UnitErr.TheVariants.{NotNumber, OutOfRange}
@@ -64,17 +66,9 @@ signed s x = if is_minus s then neg_ℤ (pos x) else pos x
 abbrev pub rounded : Number → ℤ
 rounded n = signed n.sign (size n)
 
--- the greatest size of a value in thousandths
-abbrev pub limit : ℕ
-limit = 10 ^ 15
-
--- a number has at most so many digits
-abbrev pub digit_limit : ℕ
-digit_limit = 38
-
 -- a size, if it is within the limit
 unfoldable pub in_range : ℕ → Result ℕ UnitErr
-in_range x = if nat_lt limit x then Err OutOfRange else Ok x
+in_range x = if nat_lt MAX_THOUSANDTHS x then Err OutOfRange else Ok x
 
 -- the same with its sign
 abbrev pub with_sign : Sign → Result ℕ UnitErr → Result ℤ UnitErr
@@ -84,13 +78,13 @@ with_sign s (Err e) = Err e
 -- a number with too many digits is none
 unfoldable pub value_of : Option Number → Result ℤ UnitErr
 value_of None = Err NotNumber
-value_of (Some n) = if nat_lt digit_limit (digit_count n) then Err NotNumber else with_sign n.sign (in_range (size n))
+value_of (Some n) = if nat_lt MAX_DIGITS (digit_count n) then Err NotNumber else with_sign n.sign (in_range (size n))
 
 -- what a text is in thousandths
 abbrev pub thousandths_of : List ℕ → Result ℤ UnitErr
 thousandths_of text = value_of (reading text)
 
--- the text is this number's, and the number has at most 38 digits
+-- the text is this number's, and the number has at most so many digits
 pub record IsShort (text : List ℕ) (n : Number) : Type 0 where
   pub spells : Spells text n
-  pub digits : digit_count n ≤ digit_limit
+  pub digits : digit_count n ≤ MAX_DIGITS

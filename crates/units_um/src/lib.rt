@@ -1,4 +1,13 @@
 //! Numbers of a project in thousandths: from the text of an Int or a Real to a whole count of thousandths.
+//!
+//! | module | what is in it | calls |
+//! |---|---|---|
+//! | value | the value of a text in thousandths | `thousandths`, `MAX_DIGITS` |
+//! | rounding | a fraction of powers of ten rounded to the nearest whole number | `MAX_THOUSANDTHS` |
+//! | reading | the parts of the number that a text spells | none |
+//! | number | these parts | none |
+//! | laws | what the definitions mean | `one_reading`, `half_up` |
+//! | fault | why a text has no value | `UnitErr` |
 #![tactic(auto)]
 
 mod fault;
@@ -10,7 +19,5 @@ mod value;
 
 pub use fault::UnitErr;
 pub use laws::{half_up, one_reading};
-pub use value::thousandths;
-
-#[cfg(test)]
-mod tests;
+pub use rounding::MAX_THOUSANDTHS;
+pub use value::{MAX_DIGITS, thousandths};

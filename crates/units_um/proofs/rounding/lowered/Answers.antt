@@ -3,8 +3,8 @@ use Rattle.units_um.specs.Thousandths.{nearest}
 use Rattle.units_um.proofs.Scale.{power_grows, power_positive, within_limit, lowered_far}
 use Rattle.units_um.proofs.rounding.lowered.Goals as goal
 
-pub returns-then-by-gt38 : goal.returns-then-by-gt38
-returns-then-by-gt38 c = rw (lowered_far c.args.mantissa c.args.by (omega arith) (omega arith)) (within_limit 0 (omega arith))
+pub returns-then-by : goal.returns-then-by
+returns-then-by c = rw (lowered_far c.args.mantissa c.args.by (omega arith) (omega arith)) (within_limit 0 (omega arith))
 
 pub pow-unit-requires : goal.pow-unit-requires
 pow-unit-requires c = omega (arith, power_grows c.args.by 38 (omega arith))

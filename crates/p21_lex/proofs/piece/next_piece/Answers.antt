@@ -1,6 +1,6 @@
 use Rattle.p21_lex.proofs.Pieces.{is_piece, is_token}
 use Rattle.p21_lex.proofs.Refusals.{front_refused, front_refuses}
-use Rattle.p21_lex.proofs.piece.front.Goals as goal
+use Rattle.p21_lex.proofs.piece.next_piece.Goals as goal
 
 pub returns-clause-found : goal.returns-clause-found
 returns-clause-found c = is_piece c.args.at c.args.bytes.now c.piece_at.result c.piece_at.ensures.exact
