@@ -6,12 +6,12 @@ use Rattle.entity_types.specs.declared.table.Kind.TheVariants.{Reference, Refere
 use Rattle.entity_types.specs.declared.table.UsedPosition.{UsedPosition}
 use Rattle.entity_types.specs.declared.field.Field.{Field}
 use Rattle.entity_types.specs.declared.field.Field.TheVariants.{Absent, Present, Ref, Value, Refs, Values}
-use Rattle.nc_base.specs.declared.numbers.TheConstants.{MAX_VALUE}
+use Rattle.nc_base.specs.declared.numbers.TheConstants.{MAX_THOUSANDTHS}
 use Rattle.entity_types.specs.Table.{used_of}
 
 -- of at most the greatest size, 10^15 thousandths
 abbrev pub in_range : ℤ → Bool
-in_range x = nat_le (unsigned_abs x) MAX_VALUE
+in_range x = nat_le (unsigned_abs x) MAX_THOUSANDTHS
 
 -- only whether there is anything is looked at
 abbrev pub is_flag : Kind → Bool

@@ -2,7 +2,7 @@
 //!
 //! | module | what is in it | calls |
 //! |---|---|---|
-//! | numbers | numbers of instances, their greatest, lists of them; the greatest value | `Number`, `MAX_NUMBER`, `NumberList`, `MAX_VALUE` |
+//! | numbers | numbers of instances, their greatest, lists of them; the greatest value | `Number`, `MAX_NUMBER`, `NumberList`, `MAX_THOUSANDTHS` |
 //! | distinct | whether no number stands twice | `are_distinct` |
 //! | items | a list of items of any type | `ItemList` |
 //! | text | bytes in a row, short ones without memory of their own | `NcText` |
@@ -27,7 +27,7 @@ pub use distinct::are_distinct;
 pub use items::ItemList;
 pub use lines::{Line, put, put_number};
 pub use memory::NoMemory;
-pub use numbers::{MAX_NUMBER, MAX_VALUE, Number, NumberList};
+pub use numbers::{MAX_NUMBER, MAX_THOUSANDTHS, Number, NumberList};
 pub use steps::Steps;
 pub use text::NcText;
 pub use verdict::Verdict;

@@ -13,7 +13,7 @@ pub type Number = u32;
 pub const MAX_NUMBER: Number = 2_147_483_647;
 
 /// The greatest size of a value that a project writes or works out, in thousandths of its unit: 10^15 (this profile).
-pub const MAX_VALUE: u64 = 1_000_000_000_000_000;
+pub const MAX_THOUSANDTHS: u64 = 1_000_000_000_000_000;
 
 /// A list of at most 4,294,967,295 numbers. It keeps the allocator that it was made with.
 #[derive(Debug, Drop)]

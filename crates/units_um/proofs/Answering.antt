@@ -9,7 +9,7 @@ use Rattle.units_um.specs.declared.number.Sign.TheVariants.{Unsigned, Plus, Minu
 use Rattle.units_um.specs.Number.{Number}
 use Rattle.units_um.specs.Reading.{reading}
 use Rattle.units_um.specs.declared.value.TheConstants.{MAX_DIGITS}
-use Rattle.units_um.specs.declared.rounding.TheConstants.{MAX_THOUSANDTHS}
+use Rattle.nc_base.specs.declared.numbers.TheConstants.{MAX_THOUSANDTHS}
 use Rattle.units_um.specs.Thousandths.{IsShort, digit_count, size, signed, with_sign, rounded, in_range, value_of, thousandths_of}
 use Rattle.units_um.proofs.OneReading.{read_again, read_takes}
 use Rattle.units_um.proofs.Scale.{past_limit, within_limit}

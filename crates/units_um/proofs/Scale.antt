@@ -4,7 +4,7 @@ use Rattle.std.proofs.Math.Nat.{one-le-pow, pow-le-pow_right, mul-div-mul_left, 
 use Rattle.std.proofs.lemmas.Nat.{pow-add, mul-le, div-mul-add}
 use Rattle.std.proofs.lemmas.Bool.{lt-ltb, le-ltb}
 use Rattle.units_um.specs.declared.fault.UnitErr.TheVariants.{OutOfRange}
-use Rattle.units_um.specs.declared.rounding.TheConstants.{MAX_THOUSANDTHS}
+use Rattle.nc_base.specs.declared.numbers.TheConstants.{MAX_THOUSANDTHS}
 use Rattle.units_um.specs.Thousandths.{nearest, in_range}
 
 pub power_grows : (i j : ℕ) → i ≤ j → 10 ^ i ≤ 10 ^ j

@@ -2,7 +2,7 @@
 use Rattle.std.specs.Prelude.{ℕ, ◌≤◌, ◌+◌, ◌*◌, ◌/◌, ◌^◌, List, [], ◌++◌, length, Option, Some, None, Result, Ok, Err, nat_lt, if◌then◌else◌, ℤ, pos, neg_ℤ}
 use Rattle.std.specs.Str.Parse.{digits_value}
 use Rattle.units_um.specs.declared.value.TheConstants.{MAX_DIGITS}
-use Rattle.units_um.specs.declared.rounding.TheConstants.{MAX_THOUSANDTHS}
+use Rattle.nc_base.specs.declared.numbers.TheConstants.{MAX_THOUSANDTHS}
 use Rattle.units_um.specs.declared.number.Sign.{Sign}
 use Rattle.units_um.specs.declared.fault.UnitErr.{UnitErr}
 use Rattle.units_um.specs.declared.fault.UnitErr.TheVariants.{NotNumber, OutOfRange}

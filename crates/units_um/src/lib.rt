@@ -3,7 +3,7 @@
 //! | module | what is in it | calls |
 //! |---|---|---|
 //! | value | the value of a text in thousandths | `thousandths`, `MAX_DIGITS` |
-//! | rounding | a fraction of powers of ten rounded to the nearest whole number | `MAX_THOUSANDTHS` |
+//! | rounding | a fraction of powers of ten rounded to the nearest whole number | none |
 //! | reading | the parts of the number that a text spells | none |
 //! | number | these parts | none |
 //! | laws | what the definitions mean | `one_reading`, `half_up` |
@@ -19,5 +19,4 @@ mod value;
 
 pub use fault::UnitErr;
 pub use laws::{half_up, one_reading};
-pub use rounding::MAX_THOUSANDTHS;
 pub use value::{MAX_DIGITS, thousandths};

@@ -5,9 +5,7 @@ ghost use Rattle.units_um.specs.Thousandths.{in_range, nearest};
 
 use crate::fault::UnitErr;
 use crate::value::MAX_DIGITS;
-
-/// The greatest size of a value in thousandths, 10^15 (this profile).
-pub const MAX_THOUSANDTHS: u64 = 1_000_000_000_000_000;
+use nc_base::MAX_THOUSANDTHS;
 
 /// Numbers of so many digits at most, and their halves, are worked out in 64 bits.
 pub const SHORT_DIGITS: usize = 18;

@@ -10,7 +10,8 @@ ghost use Rattle.std.specs.Option.{option_map};
 use crate::fault::UnitErr;
 use crate::number::{ExponentText, NumberText, Sign};
 use crate::reading::read;
-use crate::rounding::{MAX_THOUSANDTHS, SHORT_DIGITS, scaled};
+use crate::rounding::{SHORT_DIGITS, scaled};
+use nc_base::MAX_THOUSANDTHS;
 
 /// How many digits a number has at most in all its parts together (this profile).
 pub const MAX_DIGITS: usize = 38;

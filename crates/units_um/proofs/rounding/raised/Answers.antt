@@ -1,5 +1,5 @@
 use Rattle.std.proofs.Common.{◌<◌, ◌*◌, ◌^◌, arith}
-use Rattle.units_um.specs.declared.rounding.TheConstants.{MAX_THOUSANDTHS}
+use Rattle.nc_base.specs.declared.numbers.TheConstants.{MAX_THOUSANDTHS}
 use Rattle.units_um.proofs.Scale.{past_limit, raised_far, raised_past}
 use Rattle.units_um.proofs.rounding.raised.Goals as goal
 use Rattle.units_um.proofs.rounding.raised.Goals.{then-by-gt15-via-then-by-gt15, then-by-gt15-via-else-by-gt15+then-mantissa-from}
