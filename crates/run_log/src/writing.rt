@@ -57,12 +57,7 @@ fn put_blocks<S: Sink>(blocks: &[Block], sink: &mut S) -> Result<(), Failed>
 }
 
 /// Puts the first line, a line for each entry, of which there are so many, and the last line.
-fn put_lines<S: Sink>(
-    log: &[Entry],
-    count: u32,
-    ending: Ending,
-    sink: &mut S,
-) -> Result<(), Failed>
+fn put_lines<S: Sink>(log: &[Entry], count: u32, ending: Ending, sink: &mut S) -> Result<(), Failed>
     requires { count ≡ length log.now }
     ensures counted { S.faults sink.old ≤ S.faults sink.new }
     ensures ok { OnOk result (Appends (S.taken sink.old) (S.taken sink.new) (text_of log.now ending)) }
