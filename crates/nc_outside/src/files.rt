@@ -17,6 +17,7 @@ pub enum FileErr {
     /// The file has more bytes than were asked for.
     #[error("the file is too long")]
     TooLong,
+    /// Memory ran out.
     #[error("out of memory")]
     NoMemory,
 }
@@ -44,7 +45,11 @@ pub trait Files {
     ghost faults: { Self → List ℕ → ℕ };
 
     /// Reads the whole file into `room`, whose old contents are dropped, if it has at most `most` bytes.
-    /// After a refusal `room` is empty. A read changes nothing of what the names hold.
+    /// A read changes nothing of what the names hold.
+    ///
+    /// # Errors
+    /// `Failed` where the file is not there or can't be read, which counts as a fault of it; `TooLong` where it has more than `most`
+    /// bytes; `NoMemory`. After each of them `room` is empty.
     fn read(&mut self, name: &NcText, room: &mut Vec<u8>, most: u32) -> Result<(), FileErr>
         // What is told stays told.
         ensures kept { (n : List ℕ) → holds self.new n ≡ holds self.old n }

@@ -92,6 +92,9 @@ pub struct HostSink<W: Write + Drop> {
 
 impl<W: Write + Drop> HostSink<W> {
     /// A sink that writes to `out`, with room for one block.
+    ///
+    /// # Errors
+    /// `NoMemory` where there is none for the block.
     pub fn new(alloc: Global, out: W) -> Result<HostSink<W>, NoMemory>
         ensures { IfOk result (λ s. (s.out ≡ out) × (s.block.items ≡ []) × (s.faults ≡ 0)) }
     {
@@ -102,7 +105,11 @@ impl<W: Write + Drop> HostSink<W> {
         })
     }
 
-    /// Writes what is gathered. A refusal is a fault; then the sink still holds the block.
+    /// Writes what is gathered.
+    ///
+    /// # Errors
+    /// `Failed` where the writer fails, which counts as a fault of the sink. It still holds the block then, though some of it may be
+    /// written.
     pub fn flush(&mut self) -> Result<(), Failed>
         ensures counted { self.old.faults ≤ self.new.faults }
         ensures failed { OnErr result (Rose self.old.faults self.new.faults) }
@@ -127,6 +134,9 @@ impl<W: Write + Drop> Sink for HostSink<W> {
     ghost faults = { λ s. s.faults };
 
     /// Gathers as much of the piece as fits into a block, and writes the block before it where it doesn't fit whole.
+    ///
+    /// # Errors
+    /// `Failed` where the block before it can't be written. Nothing of the piece is taken then.
     fn put(&mut self, piece: &[u8]) -> Result<usize, Failed>
         ensures counted { self.old.faults ≤ self.new.faults }
         ensures within { IfOk result (λ n. n ≤ length piece.now) }

@@ -80,7 +80,10 @@ impl MemoryFiles {
     }
 
     /// Gives the name these bytes; a name added again has the new bytes. A new name begins with the count of faults of
-    /// the names that aren't there. After a refusal everything is as it was.
+    /// the names that aren't there.
+    ///
+    /// # Errors
+    /// `NoMemory`. Everything is as it was then.
     pub fn add(&mut self, name: &NcText, bytes: &[u8]) -> Result<(), NoMemory>
         ensures ok { OnOk result ((n : List ℕ) → held self.new.files n ≡ (if bytes_eq name.now n then Some bytes.now else held self.old.files n)) }
         ensures faults { (n : List ℕ) → faults_of self.new n ≡ faults_of self.old n }
@@ -102,6 +105,9 @@ impl MemoryFiles {
     }
 
     /// Lists a call of `read`, counted from 0, as one that fails.
+    ///
+    /// # Errors
+    /// `NoMemory`. Nothing is listed then.
     pub fn fail_at(&mut self, call: u32) -> Result<(), NoMemory>
         ensures ok { OnOk result (self.new ≡ record self.old { failing = self.old.failing ++ call ∷ [] }) }
         ensures err { OnErr result (self.new ≡ self.old) }
@@ -118,7 +124,11 @@ impl Files for MemoryFiles {
 
     ghost faults = { λ m n. faults_of m n };
 
-    /// Reads the named text. It fails exactly where its call is listed or the name isn't there.
+    /// Reads the named text.
+    ///
+    /// # Errors
+    /// `Failed` exactly where this call is listed or the name isn't there; `TooLong` where the text has more than `most` bytes;
+    /// `NoMemory`. After each of them `room` is empty.
     fn read(&mut self, name: &NcText, room: &mut Vec<u8>, most: u32) -> Result<(), FileErr>
         ensures kept { (n : List ℕ) → held self.new.files n ≡ held self.old.files n }
         ensures counted { (n : List ℕ) → faults_of self.old n ≤ faults_of self.new n }

@@ -32,6 +32,9 @@ impl Model for MemorySink {
 
 impl MemorySink {
     /// An empty sink, with room reserved for so many bytes.
+    ///
+    /// # Errors
+    /// `NoMemory` where there is none for so many bytes.
     pub fn new(alloc: Global, room: u32) -> Result<MemorySink, NoMemory>
         ensures { IfOk result (λ s. s ≡ record { bytes = []; room = room; failing = []; calls = 0; faults = 0 }) }
     {
@@ -45,6 +48,9 @@ impl MemorySink {
     }
 
     /// Lists a call of `put`, counted from 0, as one that fails.
+    ///
+    /// # Errors
+    /// `NoMemory`. Nothing is listed then.
     pub fn fail_at(&mut self, call: u32) -> Result<(), NoMemory>
         ensures ok { OnOk result (self.new ≡ record self.old { failing = self.old.failing ++ call ∷ [] }) }
         ensures err { OnErr result (self.new ≡ self.old) }
@@ -65,8 +71,10 @@ impl Sink for MemorySink {
 
     ghost faults = { λ s. s.faults };
 
-    /// Takes as much of the piece as fits, and no memory. It fails exactly where its call is listed, or nothing of a piece
-    /// that isn't empty fits.
+    /// Takes as much of the piece as fits, and no memory.
+    ///
+    /// # Errors
+    /// `Failed` exactly where this call is listed, or nothing of a piece that isn't empty fits. Nothing is taken then.
     fn put(&mut self, piece: &[u8]) -> Result<usize, Failed>
         ensures counted { self.old.faults ≤ self.new.faults }
         ensures within { IfOk result (λ n. n ≤ length piece.now) }

@@ -16,7 +16,10 @@ pub trait Sink {
 
     ghost faults: { Self → ℕ };
 
-    /// Takes so many bytes from the front of the piece, and says how many. A refusal takes nothing.
+    /// Takes so many bytes from the front of the piece, and says how many.
+    ///
+    /// # Errors
+    /// `Failed` where the sink can't take any, which counts as a fault of it. It has taken nothing then.
     fn put(&mut self, piece: &[u8]) -> Result<usize, Failed>
         ensures counted { faults self.old ≤ faults self.new }
         ensures within { IfOk result (λ n. n ≤ length piece.now) }
@@ -29,6 +32,9 @@ pub trait Sink {
 }
 
 /// Puts the whole piece: where a put takes less, the rest is put again.
+///
+/// # Errors
+/// `Failed` where a put fails, or takes nothing of what is left. The sink has taken a front of the piece then.
 pub fn put_all<S: Sink>(sink: &mut S, piece: &[u8]) -> Result<(), Failed>
     ensures counted { S.faults sink.old ≤ S.faults sink.new }
     ensures ok { OnOk result (Appends (S.taken sink.old) (S.taken sink.new) piece.now) }

@@ -8,8 +8,8 @@ use Rattle.path_blocks.specs.declared.block.Block.{Block}
 use Rattle.path_blocks.specs.declared.block.Block.TheVariants.{Dwell}
 use Rattle.path_blocks.specs.declared.def.Shape.{Shape}
 use Rattle.path_blocks.specs.declared.def.Shape.TheVariants.{Drill, Plane, Pocket}
-use Rattle.path_blocks.specs.Cuts.{cuts, count_below}
-use Rattle.path_blocks.specs.Count.{block_count, level_count, row_count, last_ring}
+use Rattle.path_blocks.specs.Cuts.{cuts}
+use Rattle.path_blocks.specs.Count.{block_count, level_count, row_count}
 use Rattle.path_blocks.specs.Numbers.{Numbers, levels}
 use Rattle.path_blocks.specs.PathDrill.{down_into, up_from, path_drill}
 use Rattle.path_blocks.specs.PathPlane.{Face, offsets, rows, row, plane_level, path_plane, rapid_to, last_end}

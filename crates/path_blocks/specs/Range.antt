@@ -1,14 +1,15 @@
 -- The ranges that the numbers of a definition keep.
-use Rattle.std.specs.Prelude.{ℤ, pos, negsuc, int_lt, int_le, Bool, ◌&&◌, ◌||◌, [], ◌∷◌}
+use Rattle.std.specs.Prelude.{ℤ, pos, negsuc, neg_ℤ, int_lt, int_le, Bool, ◌&&◌, ◌||◌, [], ◌∷◌}
 use Rattle.std.specs.List.{list_all}
 use Rattle.std.specs.Int.{is_positive}
 use Rattle.std.specs.Ordering.{int_eq}
+use Rattle.path_blocks.specs.declared.limits.TheConstants.{MAX_SIZE}
 use Rattle.path_blocks.specs.declared.def.Shape.{Shape}
 use Rattle.path_blocks.specs.declared.def.Shape.TheVariants.{Drill, Plane, Pocket}
 
--- a length, height, feed, speed or time: within 200,000,000 thousandths in size
+-- a length, height, feed, speed or time: within the greatest size, upwards and downwards
 abbrev pub is_within : ℤ → Bool
-is_within z = int_lt (negsuc 200000000) z && int_lt z (pos 200000001)
+is_within z = int_le (neg_ℤ (pos MAX_SIZE)) z && int_le z (pos MAX_SIZE)
 
 -- at least 0
 abbrev pub is_at_least_zero : ℤ → Bool

@@ -1,10 +1,9 @@
 -- What the ranges of a shape say of each of its numbers.
-use Rattle.std.specs.Prelude.{◌≡◌, refl, Bool, true, false, ◌&&◌, ◌∷◌, [], ℤ, IsTrue, int_le}
+use Rattle.std.specs.Prelude.{refl, Bool, true, false, ◌&&◌, ◌∷◌, [], ℤ, IsTrue, int_le}
 use Rattle.std.specs.List.{list_all}
 use Rattle.std.specs.Int.{is_positive}
 use Rattle.path_blocks.specs.declared.def.Def.{Def}
-use Rattle.path_blocks.specs.declared.def.Shape.{Shape}
-use Rattle.path_blocks.specs.declared.def.Shape.TheVariants.{Drill, Plane, Pocket}
+use Rattle.path_blocks.specs.declared.def.Shape.TheVariants.{Plane, Pocket}
 use Rattle.path_blocks.specs.Range.{is_within, is_course, fits_shape}
 
 split : (a b : Bool) → IsTrue (a && b) → IsTrue a × IsTrue b

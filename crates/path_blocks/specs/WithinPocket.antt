@@ -2,7 +2,6 @@
 use Rattle.std.specs.Prelude.{ℤ, ◌≤ℤ◌, ⊤}
 use Rattle.path_blocks.specs.declared.block.Block.{Block}
 use Rattle.path_blocks.specs.declared.block.Block.TheVariants.{Tool, Rapid, Feed, Dwell}
-use Rattle.path_blocks.specs.declared.def.Def.{Def}
 use Rattle.path_blocks.specs.declared.def.Shape.{Shape}
 use Rattle.path_blocks.specs.declared.def.Shape.TheVariants.{Drill, Plane, Pocket}
 use Rattle.path_blocks.specs.PathPocket.{Rectangle}

@@ -5,6 +5,7 @@ ghost use Rattle.std.specs.Int.{is_positive};
 ghost use Rattle.path_blocks.specs.Range.{is_within, fits_shape};
 ghost use Rattle.path_blocks.specs.Count.{block_count, last_ring, level_count, row_count};
 ghost use Rattle.path_blocks.specs.Path.{IsPathLength};
+ghost use Rattle.path_blocks.specs.declared.limits.TheConstants.{MAX_SIZE};
 
 use crate::cuts::cut_count;
 use crate::def::Shape;
@@ -16,7 +17,7 @@ fn level_count(z0: i64, bottom: i64, axial: i64) -> u64
     requires downwards { bottom <ℤ z0 }
     requires cuts { IsTrue (is_positive axial) }
     ensures exact { result ≡ level_count z0 bottom axial }
-    ensures few { result ≤ 400000000 }
+    ensures few { result ≤ 2 * MAX_SIZE }
 {
     cut_count(axial.unsigned_abs(), (z0 - bottom).unsigned_abs())
 }
@@ -27,7 +28,7 @@ fn row_count(step: i64, width: i64) -> u64
     requires width { IsTrue (is_positive width) }
     requires narrow { IsTrue (is_within width) }
     ensures exact { result ≡ row_count step width }
-    ensures few { result ≤ 200000001 }
+    ensures few { result ≤ MAX_SIZE + 1 }
 {
     cut_count(step.unsigned_abs(), width.unsigned_abs()) + 1
 }
@@ -37,31 +38,32 @@ fn side(from: i64, to: i64) -> u64
     requires from { IsTrue (is_within from) }
     requires to { IsTrue (is_within to) }
     ensures exact { result ≡ unsigned_abs (to -ℤ from) }
-    ensures short { result ≤ 400000000 }
+    ensures short { result ≤ 2 * MAX_SIZE }
 {
     (to - from).unsigned_abs()
 }
 
 /// How many times a rectangle with these sides can be shrunk by `radial` on each side.
 fn last_ring(along: u64, across: u64, radial: i64) -> u64
-    requires short { along ≤ 400000000 }
+    requires short { along ≤ 2 * MAX_SIZE }
     requires radial { IsTrue (is_positive radial) }
     ensures exact { result ≡ min along across / (2 * unsigned_abs radial) }
-    ensures few { result ≤ 200000000 }
+    ensures few { result ≤ MAX_SIZE }
 {
     along.min(across) / (2 * radial.unsigned_abs())
 }
 
 /// The blocks of so many levels with so many blocks each, and the three around them.
 fn of_levels(levels: u64, each: u64) -> u64
-    requires levels { levels ≤ 400000000 }
-    requires each { each ≤ 1000000007 }
+    requires levels { levels ≤ 2 * MAX_SIZE }
+    requires each { each ≤ 5 * MAX_SIZE + 7 }
     ensures { result ≡ 3 + levels * each }
 {
     3 + levels * each
 }
 
-/// How many blocks the path has of a shape between the heights `z0` and `bottom`, cut in levels of at most `axial`.
+/// How many blocks the path has of a shape between the heights `z0` and `bottom`, cut in levels of at most `axial`. There may be more
+/// than `MAX_BLOCKS`: a shape with such heights is no definition then.
 pub fn block_count(z0: i64, bottom: i64, axial: i64, shape: &Shape) -> u64
     requires upper { IsTrue (is_within z0) }
     requires lower { IsTrue (is_within bottom) }

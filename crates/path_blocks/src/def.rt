@@ -1,10 +1,11 @@
 //! Definitions of workingsteps.
 
-ghost use Rattle.std.specs.Prelude.{◌≡◌, ◌<◌, ◌≤◌, ◌<ℤ◌, ◌∷◌, [], IsTrue, nat_le, length, slice_get, Some, unsigned_abs, ◌-ℤ◌};
+ghost use Rattle.std.specs.Prelude.{◌≡◌, ◌*◌, ◌<◌, ◌≤◌, ◌<ℤ◌, ◌∷◌, [], IsTrue, nat_le, length, slice_get, Some, unsigned_abs, ◌-ℤ◌};
 ghost use Rattle.std.specs.List.{list_all};
 ghost use Rattle.std.specs.Int.{is_positive};
 ghost use Rattle.path_blocks.specs.Range.{is_within, fits_shape};
 ghost use Rattle.path_blocks.specs.Count.{block_count};
+ghost use Rattle.path_blocks.specs.declared.limits.TheConstants.{MAX_BLOCKS, MAX_SIZE};
 
 use crate::count::block_count;
 use crate::cuts::{cut, cut_count};
@@ -40,15 +41,15 @@ pub enum Shape {
     },
 }
 
-/// The definition of a workingstep: all numbers that its path depends on, each but the tool's within 200,000,000 in size. The path
-/// has at most 20,000 blocks. Lengths are in thousandths of a millimetre.
+/// The definition of a workingstep: all numbers that its path depends on, each but the tool's within `MAX_SIZE` in size. The path
+/// has at most `MAX_BLOCKS` blocks. Lengths are in thousandths of a millimetre.
 #[derive(Clone, Copy, Debug, PartialEq, Eq)]
 pub struct Def {
     /// The instance number of the tool.
     pub tool: u32,
-    /// The spindle speed.
+    /// The spindle speed, in thousandths of a turn a second.
     pub spindle: i64,
-    /// The feed, at least 1.
+    /// The feed, at least 1, in thousandths of the unit that the file has for feeds.
     pub feed: i64,
     /// The height of the security plane.
     pub sec: i64,
@@ -66,17 +67,17 @@ pub struct Def {
     pub ghost cuts: { IsTrue (is_positive axial) },
     pub ghost downwards: { bottom <ℤ z0 },
     pub ghost shaped: { IsTrue (fits_shape shape) },
-    pub ghost few: { IsTrue (nat_le (block_count z0 bottom axial shape) 20000) },
+    pub ghost few: { IsTrue (nat_le (block_count z0 bottom axial shape) MAX_BLOCKS) },
 }
 
 impl Def {
     ghost use Rattle.path_blocks.specs.Numbers.{levels, numbers_of};
     ghost use Rattle.path_blocks.specs.Path.{path_of};
 
-    /// How many blocks its path has, at most 20,000.
+    /// How many blocks its path has, at most `MAX_BLOCKS`.
     pub fn count(&self) -> u32
         ensures exact { result ≡ length (path_of self.now) }
-        ensures few { result ≤ 20000 }
+        ensures few { result ≤ MAX_BLOCKS }
     {
         block_count(self.z0, self.bottom, self.axial, &self.shape) as u32
     }
@@ -84,7 +85,7 @@ impl Def {
     /// How far down from `z0` the bottom lies.
     fn depth(&self) -> u64
         ensures exact { result ≡ unsigned_abs (self.now.z0 -ℤ self.now.bottom) }
-        ensures shallow { result ≤ 400000000 }
+        ensures shallow { result ≤ 2 * MAX_SIZE }
     {
         (self.z0 - self.bottom).unsigned_abs()
     }
@@ -97,7 +98,7 @@ impl Def {
     }
 
     /// The height of the level with this index, counted from 0: `axial` below `z0`, 2 `axial`, and so on while above the bottom, and
-    /// at last the bottom.
+    /// at last the bottom. The index is below `level_count`.
     pub fn level(&self, index: u64) -> i64
         requires { index < length (levels (numbers_of self.now)) }
         ensures { slice_get (levels (numbers_of self.now)) index ≡ Some result }

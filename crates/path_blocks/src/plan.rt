@@ -2,13 +2,14 @@
 
 ghost use Rattle.std.specs.Prelude.{◌≡◌, ◌≤◌, length};
 ghost use Rattle.path_blocks.specs.Path.{path_of};
+ghost use Rattle.path_blocks.specs.declared.limits.TheConstants.{MAX_BLOCKS};
 
 use crate::block::Block;
 use crate::def::Def;
 use std::marker::Model;
 
 /// A definition and the blocks of its path. Contracts see the definition alone, since that determines the blocks.
-#[derive(Debug, Drop)]
+#[derive(Drop)]
 pub struct Plan {
     def: Def,
     blocks: Vec<Block>,
@@ -45,7 +46,7 @@ impl Plan {
     /// The blocks of its path, in order.
     pub fn blocks(&self) -> &[Block]
         ensures exact { result.now ≡ path_of self.now }
-        ensures few { length result.now ≤ 20000 }
+        ensures few { length result.now ≤ MAX_BLOCKS }
     {
         self.blocks.as_slice()
     }

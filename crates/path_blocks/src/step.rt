@@ -4,7 +4,7 @@ use crate::def::Def;
 use nc_base::Number;
 
 /// A workingstep and its definition.
-#[derive(Clone, Copy, Debug, PartialEq, Eq)]
+#[derive(Clone, Copy)]
 pub struct Step {
     pub number: Number,
     pub def: Def,

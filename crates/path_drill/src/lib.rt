@@ -1,4 +1,4 @@
-//! The path of a drilled hole.
+//! The path of a drilled hole: the blocks that its definition stands for. The tests stand in the crate path_tests.
 #![tactic(auto)]
 
 ghost use Rattle.std.specs.Prelude.{◌≡◌, ◌++◌, All, IfOk, IsTrue, OnOk};
@@ -64,6 +64,9 @@ fn blocks_of(alloc: Global, def: &Def, x: i64, y: i64, dwell: i64) -> Result<Vec
 /// The path of a definition whose shape is a drilled hole: over the place, down to the retract plane, feed to the bottom,
 /// dwell there if the definition says so, and back up. Every move stays over the hole's place, and no feed goes below its bottom.
 /// The rule is this profile's.
+///
+/// # Errors
+/// `NoMemory` where there is none for the blocks.
 pub fn path(alloc: Global, def: &Def) -> Result<Plan, NoMemory>
     requires { IsTrue (is_drill def.now.shape) }
     ensures exact { IfOk result (λ plan. plan ≡ def.now) }
@@ -74,6 +77,3 @@ pub fn path(alloc: Global, def: &Def) -> Result<Plan, NoMemory>
         Shape::Plane { .. } | Shape::Pocket { .. } => unreachable!(),
     }
 }
-
-#[cfg(test)]
-mod tests;

@@ -21,17 +21,18 @@ pub(crate) struct Facing {
 }
 
 impl Facing {
-    ghost use Rattle.std.specs.Prelude.{◌≡◌, ◌<◌, ◌≤◌, ◌+◌, ◌*ℤ◌, length, slice_get, Some, unsigned_abs};
+    ghost use Rattle.std.specs.Prelude.{◌≡◌, ◌<◌, ◌≤◌, ◌+◌, ◌*◌, ◌*ℤ◌, length, slice_get, Some, unsigned_abs};
+    ghost use Rattle.path_blocks.specs.declared.limits.TheConstants.{MAX_SIZE};
     ghost use Rattle.path_blocks.specs.Cuts.{cut_count};
     ghost use Rattle.path_blocks.specs.PathPlane.{far_end, is_run_back, last_end, near_end, row_end, row_start, rows};
     ghost use Rattle.path_plane.specs.Facing.{face_of};
 
     /// The near end of the row so far across the course.
     pub(crate) fn near_end(&self, offset: u64) -> (i64, i64)
-        requires { offset ≤ 200000000 }
+        requires { offset ≤ MAX_SIZE }
         ensures exact { result ≡ near_end (face_of self.now) offset }
-        ensures near_x { unsigned_abs result.0 ≤ 400000000 }
-        ensures near_y { unsigned_abs result.1 ≤ 400000000 }
+        ensures near_x { unsigned_abs result.0 ≤ 2 * MAX_SIZE }
+        ensures near_y { unsigned_abs result.1 ≤ 2 * MAX_SIZE }
     {
         if self.uy == 0 {
             (self.x, self.y + offset as i64)
@@ -44,15 +45,15 @@ impl Facing {
     fn along(&self) -> (i64, i64)
         ensures x { result.0 ≡ self.now.ux *ℤ self.now.length }
         ensures y { result.1 ≡ self.now.uy *ℤ self.now.length }
-        ensures short_x { unsigned_abs result.0 ≤ 200000000 }
-        ensures short_y { unsigned_abs result.1 ≤ 200000000 }
+        ensures short_x { unsigned_abs result.0 ≤ MAX_SIZE }
+        ensures short_y { unsigned_abs result.1 ≤ MAX_SIZE }
     {
         (self.ux * self.length, self.uy * self.length)
     }
 
     /// The far end of the row so far across the course.
     fn far_end(&self, offset: u64) -> (i64, i64)
-        requires { offset ≤ 200000000 }
+        requires { offset ≤ MAX_SIZE }
         ensures { result ≡ far_end (face_of self.now) offset }
     {
         let (x, y) = self.near_end(offset);
@@ -69,7 +70,7 @@ impl Facing {
 
     /// Where the row with this index and offset begins.
     pub(crate) fn row_start(&self, index: u64, offset: u64) -> (i64, i64)
-        requires { offset ≤ 200000000 }
+        requires { offset ≤ MAX_SIZE }
         ensures { result ≡ row_start (face_of self.now) index offset }
     {
         if self.is_run_back(index) {
@@ -81,7 +82,7 @@ impl Facing {
 
     /// Where the row with this index and offset ends.
     pub(crate) fn row_end(&self, index: u64, offset: u64) -> (i64, i64)
-        requires { offset ≤ 200000000 }
+        requires { offset ≤ MAX_SIZE }
         ensures { result ≡ row_end (face_of self.now) index offset }
     {
         if self.is_run_back(index) {
@@ -103,7 +104,7 @@ impl Facing {
     fn breadth(&self) -> u64
         ensures exact { result ≡ unsigned_abs self.now.width }
         ensures positive { 0 < result }
-        ensures narrow { result ≤ 200000000 }
+        ensures narrow { result ≤ MAX_SIZE }
     {
         self.width.unsigned_abs()
     }
@@ -112,7 +113,7 @@ impl Facing {
     fn last_row(&self) -> u64
         ensures exact { result ≡ cut_count (unsigned_abs self.now.step) (unsigned_abs self.now.width) }
         ensures rows { result + 1 ≡ length (rows (face_of self.now)) }
-        ensures few { result ≤ 200000000 }
+        ensures few { result ≤ MAX_SIZE }
     {
         cut_count(self.row_step(), self.breadth())
     }
@@ -128,7 +129,7 @@ impl Facing {
     pub(crate) fn offset(&self, index: u64) -> u64
         requires { index < length (rows (face_of self.now)) }
         ensures exact { slice_get (rows (face_of self.now)) index ≡ Some (index, result) }
-        ensures within { result ≤ 200000000 }
+        ensures within { result ≤ MAX_SIZE }
     {
         if index == 0 {
             0

@@ -1,10 +1,11 @@
-//! The path of a planar face.
+//! The path of a planar face: the blocks that its definition stands for. The tests stand in the crate path_tests.
 #![tactic(auto)]
 
 ghost use Rattle.std.specs.Prelude.{◌≡◌, ◌≤◌, ◌∷◌, [], ◌++◌, IfOk, IsTrue, OnOk};
 ghost use Rattle.std.specs.List.{flat_map};
 ghost use Rattle.path_blocks.specs.Kind.{is_plane};
 ghost use Rattle.path_blocks.specs.Numbers.{levels, numbers_of};
+ghost use Rattle.path_blocks.specs.declared.limits.TheConstants.{MAX_SIZE};
 ghost use Rattle.path_blocks.specs.PathPlane.{feed_to, path_plane, plane_level, rapid_to, row, rows};
 ghost use Rattle.path_plane.specs.Facing.{face_of};
 
@@ -47,7 +48,7 @@ fn push_row(
     index: u64,
     offset: u64,
 ) -> Result<(), NoMemory>
-    requires { offset ≤ 200000000 }
+    requires { offset ≤ MAX_SIZE }
     ensures { OnOk result (blocks.new.items ≡ blocks.old.items ++ row (numbers_of def.now) (face_of facing.now) z (index, offset)) }
 {
     push_feed(blocks, def, facing.row_start(index, offset), z)?;
@@ -102,6 +103,9 @@ fn blocks_of(alloc: Global, def: &Def, facing: &Facing) -> Result<Vec<Block>, No
 
 /// The path of a definition whose shape is a planar face: on each level parallel rows along the course, from the corner on across
 /// the width, every second one run back where the face says so. The rule is this profile's.
+///
+/// # Errors
+/// `NoMemory` where there is none for the blocks.
 pub fn path(alloc: Global, def: &Def) -> Result<Plan, NoMemory>
     requires { IsTrue (is_plane def.now.shape) }
     ensures { IfOk result (λ plan. plan ≡ def.now) }
@@ -132,6 +136,3 @@ pub fn path(alloc: Global, def: &Def) -> Result<Plan, NoMemory>
         Shape::Drill { .. } | Shape::Pocket { .. } => unreachable!(),
     }
 }
-
-#[cfg(test)]
-mod tests;

@@ -26,6 +26,7 @@ pub(crate) struct Inset {
 
 impl Inset {
     ghost use Rattle.std.specs.Prelude.{◌≡◌, ◌<◌, ◌≤◌, ◌+◌, ◌*◌, ◌-ℤ◌, min, unsigned_abs};
+    ghost use Rattle.path_blocks.specs.declared.limits.TheConstants.{MAX_SIZE};
     ghost use Rattle.path_blocks.specs.PathPocket.{innermost, ring};
     ghost use Rattle.path_pocket.specs.Inset.{rectangle_between, rectangle_of};
 
@@ -33,7 +34,7 @@ impl Inset {
     fn ring_step(&self) -> u64
         ensures exact { result ≡ unsigned_abs self.now.radial }
         ensures positive { 0 < result }
-        ensures narrow { result ≤ 200000000 }
+        ensures narrow { result ≤ MAX_SIZE }
     {
         self.radial.unsigned_abs()
     }
@@ -50,7 +51,7 @@ impl Inset {
     /// The number of the innermost ring.
     pub(crate) fn innermost(&self) -> u64
         ensures exact { result ≡ innermost (rectangle_of self.now) self.now.radial }
-        ensures few { result ≤ 400000000 }
+        ensures few { result ≤ 2 * MAX_SIZE }
     {
         self.least_side() / (2 * self.ring_step())
     }

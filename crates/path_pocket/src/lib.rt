@@ -1,4 +1,4 @@
-//! The path of a rectangular pocket.
+//! The path of a rectangular pocket: the blocks that its definition stands for. The tests stand in the crate path_tests.
 #![tactic(auto)]
 
 ghost use Rattle.std.specs.Prelude.{◌≡◌, ◌≤◌, ◌∷◌, [], ◌++◌, All, IfOk, IsTrue, OnOk};
@@ -96,6 +96,9 @@ fn blocks_of(alloc: Global, def: &Def, inset: &Inset) -> Result<Vec<Block>, NoMe
 
 /// The path of a definition whose shape is a rectangular pocket: on each level rings from the inside out. Every feed stays within
 /// the pocket's rectangle and goes no deeper than its bottom. The rule is this profile's.
+///
+/// # Errors
+/// `NoMemory` where there is none for the blocks.
 pub fn path(alloc: Global, def: &Def) -> Result<Plan, NoMemory>
     requires { IsTrue (is_pocket def.now.shape) }
     ensures exact { IfOk result (λ plan. plan ≡ def.now) }
@@ -121,6 +124,3 @@ pub fn path(alloc: Global, def: &Def) -> Result<Plan, NoMemory>
         Shape::Drill { .. } | Shape::Plane { .. } => unreachable!(),
     }
 }
-
-#[cfg(test)]
-mod tests;

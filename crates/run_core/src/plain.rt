@@ -3,6 +3,7 @@
 ghost use Rattle.std.specs.Prelude.{◌≡◌, ℕ, ◌<◌, ◌≤◌, List, [], ◌∷◌, length, take, Option, IfOk, true, false};
 ghost use Rattle.std.specs.List.{flat_map};
 ghost use Rattle.path_blocks.specs.declared.block.Block.{Block};
+ghost use Rattle.path_blocks.specs.declared.limits.TheConstants.{MAX_BLOCKS};
 ghost use Rattle.run_log.specs.declared.entry.Ending.TheVariants as endings;
 ghost use Rattle.trace_law.specs.Exec.{Plan};
 ghost use Rattle.trace_law.specs.Of.{AreDistinct};
@@ -32,7 +33,7 @@ fn put(log: &mut Log, entry: Entry, limit: u32) -> Result<bool, NoMemory>
 /// Puts the blocks of a workingstep.
 fn put_blocks(log: &mut Log, n: Number, blocks: &[Block], limit: u32) -> Result<bool, NoMemory>
     requires room { length log.old ≤ limit }
-    requires few { length blocks.now ≤ 20000 }
+    requires few { length blocks.now ≤ MAX_BLOCKS }
     ensures { IfOk result (Grows limit log.old (cut_from n 0 blocks.now) log.new) }
 {
     for (k, b) in blocks.iter().enumerate() {
@@ -79,6 +80,9 @@ fn put_steps(alloc: Global, log: &mut Log, steps: &[Step], limit: u32) -> Result
 
 /// Runs workingsteps in a row, as the elements of a workplan without a channel, up to `limit` entries. The log is a legal run,
 /// and the ending is its own.
+///
+/// # Errors
+/// `NoMemory` where there is none for the plan of a step or for an entry.
 pub fn run(alloc: Global, steps: &[Step], limit: u32) -> Result<(Log, Ending), NoMemory>
     requires { AreDistinct (numbers_of steps.now) }
     ensures legal { IfOk result (λ ran. (paths : ℕ → Option (List Block)) (main : Option ℕ)

@@ -7,6 +7,9 @@ use path_blocks::{Def, Plan, Shape};
 use std::alloc::Global;
 
 /// The plan of a definition of any shape: its path by the crate of that shape.
+///
+/// # Errors
+/// `NoMemory` where there is none for the blocks.
 pub fn plan_of(alloc: Global, def: &Def) -> Result<Plan, NoMemory>
     ensures { IfOk result (λ plan. plan ≡ def.now) }
 {

@@ -3,7 +3,10 @@
 use nc_base::{ItemList, Number};
 use path_blocks::Block;
 
-/// One entry of a log: one event of the run.
+/// The most entries that a log may be asked to have (this profile).
+pub const MAX_ENTRIES: u32 = 2_000_000;
+
+/// One entry of a log: one event of the run. The kinds are this profile's own.
 #[derive(Clone, Copy, Debug, PartialEq, Eq)]
 pub enum Entry {
     /// Workingstep `n` is dispatched at version `v`, the number of accepted edits that reached it before.
@@ -23,5 +26,5 @@ pub enum Ending {
     Limit,
 }
 
-/// The entries of a run so far, in order.
+/// The entries of a run so far, in order. The type keeps their count below 2^32.
 pub type Log = ItemList<Entry>;

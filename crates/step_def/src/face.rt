@@ -61,7 +61,7 @@ fn strategy_at<'a, E: Entities>(
 {
     match referred(from, entity, position) {
         Some((number, entity)) if is_strategy(entity) => Ok((number, entity)),
-        _ => Err(DefFault::Missing(n, position)),
+        _ => Err(DefFault::Missing(n, u32::from(position))),
     }
 }
 

@@ -12,7 +12,7 @@ use thiserror::Error;
 pub enum DefFault {
     /// The position of the instance is `$` where something is needed, or refers to an instance of the wrong class.
     #[error("position {1} of #{0} is missing")]
-    Missing(Number, u8),
+    Missing(Number, u32),
     /// The operation has a toolpath of its own.
     #[error("operation #{0} has a toolpath of its own")]
     HasToolpath(Number),
@@ -27,10 +27,10 @@ pub enum DefFault {
     NotRectangle(Number),
     /// The number at the position of the instance is 0 or less.
     #[error("the number at position {1} of #{0} isn't positive")]
-    NotPositive(Number, u8),
+    NotPositive(Number, u32),
     /// The number at the position of the instance is out of its range.
     #[error("the number at position {1} of #{0} is out of range")]
-    OutOfRange(Number, u8),
+    OutOfRange(Number, u32),
     /// The tool doesn't fit into the feature.
     #[error("tool #{0} is too big")]
     ToolTooBig(Number),

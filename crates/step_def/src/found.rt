@@ -15,7 +15,7 @@ pub(crate) struct Coordinates {
 #[derive(Clone, Copy)]
 pub(crate) struct Figure {
     pub(crate) number: Number,
-    pub(crate) position: u8,
+    pub(crate) position: u32,
     pub(crate) value: i64,
 }
 
@@ -23,7 +23,7 @@ pub(crate) struct Figure {
 #[derive(Clone, Copy)]
 pub(crate) struct Ranged {
     pub(crate) number: Number,
-    pub(crate) position: u8,
+    pub(crate) position: u32,
     pub(crate) value: i64,
     pub(crate) least: i64,
     pub(crate) greatest: i64,

@@ -50,10 +50,10 @@ pub(crate) fn number_at(n: Number, entity: &Entity, position: u8) -> Result<Figu
     match value_in(entity, position) {
         Some(value) => Ok(Figure {
             number: n,
-            position,
+            position: u32::from(position),
             value,
         }),
-        None => Err(DefFault::Missing(n, position)),
+        None => Err(DefFault::Missing(n, u32::from(position))),
     }
 }
 
@@ -69,10 +69,10 @@ pub(crate) fn length_at<E: Entities>(
     match length_in(from, entity, position) {
         Some(value) => Ok(Figure {
             number: n,
-            position,
+            position: u32::from(position),
             value,
         }),
-        None => Err(DefFault::Missing(n, position)),
+        None => Err(DefFault::Missing(n, u32::from(position))),
     }
 }
 

@@ -50,7 +50,7 @@ pub(crate) fn instance_at<'a, E: Entities>(
 {
     match referred(from, entity, position) {
         Some(instance) => Ok(instance),
-        None => Err(DefFault::Missing(n, position)),
+        None => Err(DefFault::Missing(n, u32::from(position))),
     }
 }
 
@@ -67,6 +67,6 @@ pub(crate) fn class_at<'a, E: Entities>(
 {
     match referred(from, entity, position) {
         Some((number, entity)) if is_of(class, entity) => Ok((number, entity)),
-        _ => Err(DefFault::Missing(n, position)),
+        _ => Err(DefFault::Missing(n, u32::from(position))),
     }
 }

@@ -49,7 +49,7 @@ fn tool_body_at<'a, E: Entities>(
 {
     match referred(from, entity, position) {
         Some((number, entity)) if is_tool_body(entity) => Ok((number, entity)),
-        _ => Err(DefFault::Missing(n, position)),
+        _ => Err(DefFault::Missing(n, u32::from(position))),
     }
 }
 

@@ -1,10 +1,9 @@
-use Rattle.std.proofs.Common.{◌≡◌, ◌∙◌, ap, refl, subst, Bool, rules, ℕ, ◌+◌, ◌*◌, ◌/◌, min, ◌-ℤ◌, IsTrue, w64, FitsSigned, to_z, of_z, unsigned_abs, arith, ℤ}
+use Rattle.std.proofs.Common.{◌≡◌, ◌∙◌, ap, refl, subst, Bool, rules, ℕ, ◌+◌, ◌*◌, ◌/◌, min, ◌-ℤ◌, IsTrue, w64, FitsSigned, to_z, of_z, unsigned_abs, ℤ}
 use Rattle.std.proofs.lemmas.Int.{to_z-of_z}
-use Rattle.std.proofs.lemmas.Grind.{common_steps}
 use Rattle.path_blocks.specs.declared.def.Shape.{Shape}
 use Rattle.path_blocks.specs.declared.def.Shape.TheVariants.{Plane, Pocket}
 use Rattle.path_blocks.specs.Range.{fits_shape}
-use Rattle.path_blocks.specs.Count.{block_count, level_count, row_count, last_ring}
+use Rattle.path_blocks.specs.Count.{block_count, level_count, row_count}
 use Rattle.path_blocks.proofs.Lengths.{is_path_length}
 use Rattle.path_blocks.specs.ShapeRanges.{PlaneRanges, plane_ranges, PocketRanges, pocket_ranges}
 use Rattle.path_blocks.proofs.Ranges.{within_back, positive_back}

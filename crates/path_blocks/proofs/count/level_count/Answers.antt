@@ -1,5 +1,4 @@
-use Rattle.std.proofs.Common.{◌≡◌, ◌∙◌, ap, ℕ, ◌+◌, ◌-ℤ◌, ◌<ℤ◌, ℤ, to_z, of_z, w64, arith, IsTrue, FitsSigned, unsigned_abs}
-use Rattle.std.specs.Int.{is_positive}
+use Rattle.std.proofs.Common.{◌≡◌, ◌∙◌, ap, ℕ, ◌+◌, ◌-ℤ◌, ℤ, to_z, of_z, w64, arith, IsTrue, FitsSigned, unsigned_abs}
 use Rattle.std.proofs.lemmas.Int.{ints, to_z-of_z}
 use Rattle.path_blocks.specs.Range.{is_within}
 use Rattle.path_blocks.specs.Cuts.{count_below}

@@ -1,4 +1,4 @@
-use Rattle.std.proofs.Common.{◌≡◌, ◌∙◌, ap, ℕ, ◌+◌, w64, unsigned_abs}
+use Rattle.std.proofs.Common.{◌∙◌, ap, ℕ, ◌+◌, w64, unsigned_abs}
 use Rattle.std.proofs.lemmas.Int.{to_z-of_z}
 use Rattle.path_blocks.specs.Cuts.{count_below}
 use Rattle.path_blocks.proofs.CutsLemmas.{length-cuts}

@@ -1,4 +1,4 @@
-use Rattle.std.proofs.Common.{◌∙◌, sym, arith, ◌-◌}
+use Rattle.std.proofs.Common.{arith, ◌-◌}
 use Rattle.std.proofs.Math.Nat.{div-le_self}
 use Rattle.path_blocks.proofs.CutsLemmas.{length-cuts}
 use Rattle.path_blocks.proofs.cuts.cut_count.Goals as goal

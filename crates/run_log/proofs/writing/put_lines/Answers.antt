@@ -41,7 +41,7 @@ returns-clause-ok g c =
     let i = c.loop-entry.entry-index in
     let tail = last_line c.args.ending (length t) in
     let whole = all_lines entry_line first_line t i tail (omega arith) in
-    on_ok _ (rw (c.as_slice-2.ensures.value, c.of_ending.ensures) at c.put_all-2.ensures.ok)
+    on_ok _ (rw (c.as_slice-2.ensures.value, c.of_ending.ensures, c.requires) at c.put_all-2.ensures.ok)
     (λ line. subst (λ (m : List ℕ). Appends (g.S.Sink.taken c.args.sink.now) (g.S.Sink.taken c.put_all-2.new.sink) m) whole
     (appends_after _ _ _ (first_line ++ flat_map entry_line (take i t)) tail c.loop-entry.invariant.taken line))
 
@@ -51,6 +51,6 @@ returns-clause-failed_takes_front g c =
     let i = c.loop-entry.entry-index in
     let tail = last_line c.args.ending (length t) in
     let whole = ap (λ (m : List ℕ). (first_line ++ flat_map entry_line (take i t)) ++ m) (append-nil tail) ∙ all_lines entry_line first_line t i tail (omega arith) in
-    on_err _ (rw (c.as_slice-2.ensures.value, c.of_ending.ensures) at c.put_all-2.ensures.failed_takes_front)
+    on_err _ (rw (c.as_slice-2.ensures.value, c.of_ending.ensures, c.requires) at c.put_all-2.ensures.failed_takes_front)
     (λ line. subst (λ (m : List ℕ). AppendsFront (g.S.Sink.taken c.args.sink.now) (g.S.Sink.taken c.put_all-2.new.sink) m) whole
     (front_after _ _ _ (first_line ++ flat_map entry_line (take i t)) tail [] c.loop-entry.invariant.taken line))

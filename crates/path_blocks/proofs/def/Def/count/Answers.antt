@@ -1,4 +1,4 @@
-use Rattle.std.proofs.Common.{◌≡◌, ap, sym, w64, to_z, of_z, refl, FitsSigned, rules, ℕ, ℤ}
+use Rattle.std.proofs.Common.{sym, w64, refl, FitsSigned, rules}
 use Rattle.path_blocks.specs.Numbers.{numbers_of}
 use Rattle.std.proofs.lemmas.Int.{to_z-of_z}
 use Rattle.path_blocks.proofs.def.Def.count.Goals as goal

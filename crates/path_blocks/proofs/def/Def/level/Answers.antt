@@ -1,4 +1,4 @@
-use Rattle.std.proofs.Common.{rules, ◌≡◌, ◌∙◌, ap, sym, ℕ, ℤ, pos, ◌-ℤ◌, ◌≤◌, map, Some, Option, FitsSigned, to_z, of_z, w64, arith, IsTrue, slice_get, List, unsigned_abs}
+use Rattle.std.proofs.Common.{rules, ◌≡◌, ◌∙◌, ap, sym, ℕ, ℤ, pos, ◌-ℤ◌, ◌≤◌, Some, Option, FitsSigned, to_z, of_z, w64, arith, IsTrue, slice_get, unsigned_abs}
 use Rattle.std.specs.Prelude.{option_map}
 use Rattle.std.proofs.lemmas.Int.{ints, to_z-of_z}
 use Rattle.std.proofs.lemmas.Option.{slice_get-map}

@@ -1,5 +1,4 @@
-use Rattle.std.proofs.Common.{◌≡◌, ◌∙◌, ap, length, ℕ, ◌≤◌, IsTrue, nat_le, arith, subst, List}
-use Rattle.path_blocks.specs.Count.{block_count}
+use Rattle.std.proofs.Common.{◌≡◌, ◌∙◌, ap, length, ℕ, ◌≤◌, IsTrue, nat_le, arith, List}
 use Rattle.path_blocks.specs.Numbers.{numbers_of}
 use Rattle.path_blocks.specs.declared.block.Block.{Block}
 use Rattle.path_blocks.proofs.Lengths.{length-path_from}
