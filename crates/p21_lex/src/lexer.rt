@@ -54,7 +54,7 @@ fn all(alloc: Global, bytes: &[u8]) -> Result<Vec<Token>, LexErr>
 /// comments between them are left out.
 ///
 /// # Errors
-/// The first fault from left to right. Or want of memory.
+/// The first fault from left to right. Or `NoMemory`, where memory runs out.
 pub fn tokens(alloc: Global, bytes: &[u8]) -> Result<Vec<Token>, LexErr>
     requires { length bytes.now ≤ MAX_TEXT }
     // What is found reads the text.

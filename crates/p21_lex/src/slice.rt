@@ -48,7 +48,7 @@ fn first_slice(alloc: Global, bytes: &[u8], least: u32) -> Result<(Vec<Token>, u
 /// read slice by slice, each with memory of its own: the next slice is the first one of the bytes that are left.
 ///
 /// # Errors
-/// The first fault from left to right, where it stands before such a semicolon. Or want of memory.
+/// The first fault from left to right, where it stands before such a semicolon. Or `NoMemory`, where memory runs out.
 pub fn slice_tokens(alloc: Global, bytes: &[u8], least: u32) -> Result<(Vec<Token>, u32), LexErr>
     requires { length bytes.now ≤ MAX_TEXT }
     // What is found is the first slice.

@@ -1,12 +1,9 @@
 -- Instances that make an exchange, one after the other, and the exchange under the standard header.
-use Rattle.std.proofs.Common.{◌≡◌, ℕ, suc, ◌+◌, ◌<◌, ◌≤◌, nat_eq, Bool, true, false, List, [], ◌∷◌, ◌++◌, length, map, take, codes, refl, sym, ap, subst, ◌∙◌, length-append, inl, inr, zero, not, cond, get_or, add-one, ◌↔◌, IsTrue, arith}
-use Rattle.std.specs.List.{AllByRecursion, IsDistinct, list_any}
-use Rattle.std.specs.Cmp.{nat_eq_equiv}
-use Rattle.std.proofs.lemmas.List.{map_push, length-map, take_all}
-use Rattle.indexmap.specs.IndexSet.{insert_key}
+use Rattle.std.proofs.Common.{◌≡◌, ℕ, suc, ◌+◌, ◌<◌, ◌≤◌, nat_eq, Bool, true, false, List, [], ◌∷◌, ◌++◌, length, map, take, codes, refl, sym, ap, subst, ◌∙◌, length-append, inl, inr, zero, not, cond, get_or, add-one, ◌↔◌, IsTrue, Some, arith}
+use Rattle.std.specs.List.{AllByRecursion, IsDistinct}
+use Rattle.std.proofs.lemmas.List.{map_push, length-map, length-take, take_all}
 use Rattle.p21_parse.specs.declared.exchange.Instance.{Instance}
 use Rattle.p21_parse.specs.View.{instance_of}
-use Rattle.std.proofs.lemmas.Map.Keys.{IsDistinct-push}
 use Rattle.p21_lex.specs.declared.token.TokenKind.TheVariants as kinds
 use Rattle.p21_parse.specs.Tree.{one, Trees, none, first, listed, PartTree, InstanceTree, ExchangeTree}
 use Rattle.p21_parse.specs.Symbol.{Symbol, keyword, dashed, opening, semicolon}
@@ -16,28 +13,43 @@ use Rattle.p21_parse.specs.Nesting.{greatest, part_nesting, instance_nesting}
 use Rattle.p21_parse.specs.Begins.{IsSymbol}
 use Rattle.p21_parse.specs.Spelled.{IsSpelledInstance, IsSpelled}
 use Rattle.p21_parse.specs.Allowed.{own_number_of, IsAllowed, AreAllowed}
-use Rattle.p21_parse.specs.Built.{AreValid, IsFirstInvalid, IsValid, Fits, empty_text, one_empty, standard_description, standard_name, standard_schema, standard_head}
+use Rattle.p21_parse.specs.Built.{AreValid, AreFitting, IsFirstInvalid, IsValid, Fits, empty_text, one_empty, standard_description, standard_name, standard_schema, standard_head}
 use Rattle.p21_parse.proofs.Parting.{are_all, greatest_more}
-use Rattle.p21_parse.proofs.Naming.{not_twice, last_of}
+use Rattle.p21_parse.specs.Names.{IsFirstRepeat}
 use Rattle.p21_parse.proofs.Finish.{word_each, endsec_real}
 use Rattle.p21_parse.proofs.Appends.{longer_part, longer_instance}
 use Rattle.p21_parse.proofs.Spellings.{some_token}
 use Rattle.p21_parse.proofs.Fit.{joined, all_fit}
 
--- ---- one instance more
+-- ---- instances that are valid each by itself
 
-pub one_more : (items : List InstanceTree) (i : InstanceTree) → AreValid items → IsValid i → length items < 200000 → list_any (nat_eq i.number) (map own_number_of items) ≡ false → AreValid (items ++ i ∷ [])
-one_more items i v x lt fresh =
-    let a = v.allowed in
-    record {
-      allowed = record {
-        grammar = are_all IsInstance items i a.grammar x.grammar;
-        shallow = greatest_more instance_nesting items i a.shallow x.shallow;
-        few = omega (arith, length-append items (i ∷ []));
-      };
-      distinct = subst (λ (ns : List ℕ). IsDistinct nat_eq ns) (sym (map_push own_number_of items i)) (IsDistinct-push nat_eq_equiv (map own_number_of items) i.number v.distinct fresh);
-      spelled = are_all IsSpelledInstance items i v.spelled x.spelled;
-    }
+are_instances : (items : List InstanceTree) → AllByRecursion IsValid items → AllByRecursion IsInstance items
+are_instances [] h = tt
+are_instances (i ∷ items) h = (h.0.grammar, are_instances items h.1)
+
+are_shallow : (items : List InstanceTree) → AllByRecursion IsValid items → greatest instance_nesting items ≤ 32
+are_shallow [] h = omega arith
+are_shallow (i ∷ items) h = omega (arith, h.0.shallow, are_shallow items h.1)
+
+are_spelled : (items : List InstanceTree) → AllByRecursion IsValid items → AllByRecursion IsSpelledInstance items
+are_spelled [] h = tt
+are_spelled (i ∷ items) h = (h.0.spelled, are_spelled items h.1)
+
+together : (items : List InstanceTree) → AllByRecursion IsValid items → length items ≤ 200000 → IsDistinct nat_eq (map own_number_of items) → AreValid items
+together items each few distinct = record { allowed = record { grammar = are_instances items each; shallow = are_shallow items each; few = few }; distinct = distinct; spelled = are_spelled items each }
+
+fewer : (items : List InstanceTree) (n i : ℕ) → i ≤ n → AllByRecursion IsValid (take n items) → AllByRecursion IsValid (take i items)
+fewer items n zero le h = tt
+fewer [] n (suc i) le h = tt
+fewer (x ∷ items) zero (suc i) le h = absurd (omega arith)
+fewer (x ∷ items) (suc n) (suc i) le h = (h.0, fewer items n i (omega arith) h.1)
+
+first_numbers : (items : List InstanceTree) (n i : ℕ) → i ≤ n → take i (map own_number_of (take n items)) ≡ map own_number_of (take i items)
+first_numbers items n zero le = refl
+first_numbers [] zero (suc i) le = refl
+first_numbers [] (suc n) (suc i) le = refl
+first_numbers (x ∷ items) zero (suc i) le = absurd (omega arith)
+first_numbers (x ∷ items) (suc n) (suc i) le = ap (λ (ns : List ℕ). x.number ∷ ns) (first_numbers items n i (omega arith))
 
 last_all : (P : InstanceTree → Type 0) (items : List InstanceTree) (i : InstanceTree) → AllByRecursion P (items ++ i ∷ []) → P i
 last_all P [] i h = h.0
@@ -56,9 +68,6 @@ pub not_valid : (items : List InstanceTree) (i : InstanceTree) → (IsValid i �
 not_valid items i bad v =
     let a = v.allowed in
     bad (record { grammar = last_all IsInstance items i a.grammar; shallow = last_shallow items i a.shallow; spelled = last_all IsSpelledInstance items i v.spelled })
-
-pub again : (items : List InstanceTree) (i : InstanceTree) → list_any (nat_eq i.number) (map own_number_of items) ≡ true → AreValid (items ++ i ∷ []) → ⊥
-again items i stands v = not_twice i.number (map own_number_of items) stands (subst (λ (ns : List ℕ). IsDistinct nat_eq ns) (map_push own_number_of items i) v.distinct)
 
 -- ---- the standard header
 
@@ -163,14 +172,6 @@ built_valid x items e v = subst (λ (y : ExchangeTree). IsAllowed y × IsSpelled
 
 -- ---- the program's loop
 
-not_b : (b r : Bool) → r ≡ not b → r ≡ true → b ≡ false
-not_b true r e f = let bad : false ≡ true = sym e ∙ f in absurd cc
-not_b false r e f = refl
-
-is_b : (b r : Bool) → r ≡ not b → r ≡ false → b ≡ true
-is_b true r e f = refl
-is_b false r e f = let bad : true ≡ false = sym e ∙ f in absurd cc
-
 taken : (items : List Instance) (i : ℕ) (x : Instance) → i < length items → x ≡ get_or items i x → take (suc i) items ≡ take i items ++ x ∷ []
 taken [] i x lt is = absurd (omega arith)
 taken (y ∷ items) zero x lt is = ap (λ (z : Instance). z ∷ []) (sym is)
@@ -189,42 +190,77 @@ seen_taken (y ∷ items) (suc i) = ap (λ (zs : List InstanceTree). instance_of 
 seen_length : (items : List Instance) → length (map instance_of items) ≡ length items
 seen_length items = length-map items instance_of
 
--- the first instances are valid, and these are their numbers
-pub record Looked (items : List Instance) (at : ℕ) (keys : List ℕ) : Type 0 where
-  pub valid : AreValid (map instance_of (take at items))
-  pub numbers : keys ≡ map own_number_of (map instance_of (take at items))
+-- the first instances are valid, each by itself, and these are their numbers
+pub record Looked (items : List Instance) (at : ℕ) (numbers : List ℕ) : Type 0 where
+  pub each : AllByRecursion IsValid (take at (map instance_of items))
+  pub numbers_are : numbers ≡ map own_number_of (take at (map instance_of items))
+  pub few : at ≤ 200000
+  pub count : length numbers ≡ at
 
-module _ (items : List Instance) (at : ℕ) (x : Instance) (keys : List ℕ) (lt : at < length items) (is : x ≡ get_or items at x) (l : Looked items at keys) where
-  next : map instance_of (take (suc at) items) ≡ map instance_of (take at items) ++ instance_of x ∷ []
-  next = ap (map instance_of) (taken items at x lt is) ∙ map_push instance_of (take at items) x
+pub nothing_yet : (items : List Instance) (numbers : List ℕ) → numbers ≡ [] → Looked items 0 numbers
+nothing_yet items numbers is = record { each = tt; numbers_are = is; few = omega arith; count = ap length is }
 
-  first_invalid : (AreValid (map instance_of (take at items) ++ instance_of x ∷ []) → ⊥) → IsFirstInvalid (map instance_of items) at
-  first_invalid bad = record {
-    inside = omega (arith, seen_length items);
-    before = subst AreValid (seen_taken items at) l.valid;
-    with_it = λ v. bad (subst AreValid (sym (seen_taken items (suc at)) ∙ next) v);
-  }
+fitting : (items : List Instance) (at : ℕ) (numbers : List ℕ) → at ≤ length items → Looked items at numbers → (at < length items → AreValid (take (suc at) (map instance_of items)) → ⊥) → AreFitting (map instance_of items) numbers
+fitting items at numbers le l ends = record {
+  numbers_are = subst (λ (n : ℕ). numbers ≡ map own_number_of (take n (map instance_of items))) (sym l.count) l.numbers_are;
+  inside = omega (arith, l.count, seen_length items);
+  each = subst (λ (n : ℕ). AllByRecursion IsValid (take n (map instance_of items))) (sym l.count) l.each;
+  few = omega (arith, l.count, l.few);
+  ends = λ lt. subst (λ (n : ℕ). AreValid (take (suc n) (map instance_of items)) → ⊥) (sym l.count) (ends (omega (arith, lt, l.count, seen_length items)));
+}
 
-  pub invalid_many : 200000 ≤ at → IsFirstInvalid (map instance_of items) at
-  invalid_many many = first_invalid (too_many (map instance_of (take at items)) (instance_of x) (omega (arith, taken_length items at lt)))
+pub all_fitting : (items : List Instance) (at : ℕ) (numbers : List ℕ) → at ≡ length items → Looked items at numbers → AreFitting (map instance_of items) numbers
+all_fitting items at numbers is l = fitting items at numbers (omega (arith, is)) l (λ lt. absurd (omega (arith, is, lt)))
 
-  pub invalid_item : (r : Bool) → r ≡ false → IsTrue r ↔ IsValid (instance_of x) → IsFirstInvalid (map instance_of items) at
-  invalid_item r e h = first_invalid (not_valid (map instance_of (take at items)) (instance_of x) (λ v. let yes : r ≡ true = h.1 v in let both : true ≡ false = sym yes ∙ e in absurd cc))
+module _ (items : List Instance) (at : ℕ) (x : Instance) (numbers : List ℕ) (lt : at < length items) (is : x ≡ get_or items at x) (l : Looked items at numbers) where
+  next : take (suc at) (map instance_of items) ≡ take at (map instance_of items) ++ instance_of x ∷ []
+  next = sym (seen_taken items (suc at)) ∙ ap (map instance_of) (taken items at x lt is) ∙ map_push instance_of (take at items) x ∙ ap (λ (is : List InstanceTree). is ++ instance_of x ∷ []) (seen_taken items at)
 
-  pub invalid_again : (r : Bool) → r ≡ not (list_any (nat_eq x.number) keys) → r ≡ false → IsFirstInvalid (map instance_of items) at
-  invalid_again r e f =
-      let stands : list_any (nat_eq x.number) keys ≡ true = is_b (list_any (nat_eq x.number) keys) r e f in
-      first_invalid (again (map instance_of (take at items)) (instance_of x) (subst (λ (ks : List ℕ). list_any (nat_eq x.number) ks ≡ true) l.numbers stands))
+  stops : (AreValid (take at (map instance_of items) ++ instance_of x ∷ []) → ⊥) → AreFitting (map instance_of items) numbers
+  stops bad = fitting items at numbers (omega arith) l (λ _ v. bad (subst AreValid next v))
 
-  pub looked_more : (added : Bool) (new : List ℕ) → at < 200000 → IsValid (instance_of x) → added ≡ not (list_any (nat_eq x.number) keys) → added ≡ true → new ≡ insert_key nat_eq keys x.number → Looked items (at + 1) new
-  looked_more added new few v e f is_new =
-      let fresh : list_any (nat_eq x.number) keys ≡ false = not_b (list_any (nat_eq x.number) keys) added e f in
-      let pushed : new ≡ keys ++ x.number ∷ [] = is_new ∙ ap (λ (b : Bool). cond b keys (keys ++ x.number ∷ [])) fresh in
-      let there : list_any (nat_eq x.number) (map own_number_of (map instance_of (take at items))) ≡ false = subst (λ (ks : List ℕ). list_any (nat_eq x.number) ks ≡ false) l.numbers fresh in
-      let more = one_more (map instance_of (take at items)) (instance_of x) l.valid v (omega (arith, taken_length items at lt)) there in
+  pub stops_many : 200000 ≤ at → AreFitting (map instance_of items) numbers
+  stops_many many = stops (too_many (take at (map instance_of items)) (instance_of x) (omega (arith, many, taken_length items at lt, ap length (seen_taken items at))))
+
+  pub stops_item : (r : Bool) → r ≡ false → IsTrue r ↔ IsValid (instance_of x) → AreFitting (map instance_of items) numbers
+  stops_item r e h = stops (not_valid (take at (map instance_of items)) (instance_of x) (λ v. let yes : r ≡ true = h.1 v in let both : true ≡ false = sym yes ∙ e in absurd cc))
+
+  pub looked_more : (new : List ℕ) → at < 200000 → IsValid (instance_of x) → new ≡ numbers ++ x.number ∷ [] → Looked items (at + 1) new
+  looked_more new few v is_new =
       let whole : Looked items (suc at) new = record {
-        valid = subst AreValid (sym next) more;
-        numbers =
-            pushed ∙ ap (λ (ks : List ℕ). ks ++ x.number ∷ []) l.numbers ∙ sym (map_push own_number_of (map instance_of (take at items)) (instance_of x)) ∙ ap (map own_number_of) (sym next);
+        each = subst (AllByRecursion IsValid) (sym next) (are_all IsValid (take at (map instance_of items)) (instance_of x) l.each v);
+        numbers_are =
+            is_new ∙ ap (λ (ns : List ℕ). ns ++ x.number ∷ []) l.numbers_are ∙ sym (map_push own_number_of (take at (map instance_of items)) (instance_of x)) ∙ ap (map own_number_of) (sym next);
+        few = omega (arith, few);
+        count = omega (arith, ap length is_new, length-append numbers (x.number ∷ []), l.count);
       } in
       subst (λ (k : ℕ). Looked items k new) (sym (add-one at)) whole
+
+-- ---- all together
+
+module _ (items : List InstanceTree) (numbers : List ℕ) (f : AreFitting items numbers) where
+  pub all_valid : IsDistinct nat_eq numbers → length items ≤ length numbers → AreValid items
+  all_valid distinct all =
+      let whole : take (length numbers) items ≡ items = take_all (length numbers) items all in
+      let each : AllByRecursion IsValid items = subst (AllByRecursion IsValid) whole f.each in
+      let numbers_are : numbers ≡ map own_number_of items = f.numbers_are ∙ ap (map own_number_of) whole in
+      together items each (omega (arith, f.few, f.inside, all)) (subst (λ (ns : List ℕ). IsDistinct nat_eq ns) numbers_are distinct)
+
+  front_valid : (i : ℕ) → i ≤ length numbers → IsDistinct nat_eq (take i numbers) → AreValid (take i items)
+  front_valid i le distinct =
+      let numbers_are : take i numbers ≡ map own_number_of (take i items) = ap (take i) f.numbers_are ∙ first_numbers items (length numbers) i le in
+      together (take i items) (fewer items (length numbers) i le f.each) (omega (arith, f.few, le, length-take i items)) (subst (λ (ns : List ℕ). IsDistinct nat_eq ns) numbers_are distinct)
+
+  pub invalid_again : (i : ℕ) → IsFirstRepeat numbers (Some i) → IsFirstInvalid items i
+  invalid_again i r =
+      let numbers_are : take (i + 1) numbers ≡ map own_number_of (take (suc i) items) = ap (take (i + 1)) f.numbers_are ∙ first_numbers items (length numbers) (i + 1) (omega (arith, r.0)) ∙ ap (λ (k : ℕ). map own_number_of (take k items)) (add-one i) in
+      record {
+        inside = omega (arith, r.0, f.inside);
+        before = front_valid i (omega (arith, r.0)) r.1;
+        with_it = λ v. r.2 (subst (λ (ns : List ℕ). IsDistinct nat_eq ns) (sym numbers_are) v.distinct);
+      }
+
+  pub invalid_next : IsDistinct nat_eq numbers → length numbers < length items → IsFirstInvalid items (length numbers)
+  invalid_next distinct lt =
+      let all : take (length numbers) numbers ≡ numbers = take_all (length numbers) numbers (omega arith) in
+      record { inside = lt; before = front_valid (length numbers) (omega arith) (subst (λ (ns : List ℕ). IsDistinct nat_eq ns) (sym all) distinct); with_it = f.ends lt }

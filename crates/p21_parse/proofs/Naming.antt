@@ -1,20 +1,19 @@
 -- The names of instances, one token after the other.
-use Rattle.std.proofs.Common.{◌≡◌, ℕ, zero, suc, ◌+◌, ◌-◌, ◌<◌, ◌≤◌, nat_eq, Bool, true, false, List, [], ◌∷◌, ◌++◌, length, map, take, drop, refl, sym, ap, subst, ◌∙◌, arith, append_assoc, length-append, get_or, add-one, drop-cons, Option, Some, None, IfSome}
+use Rattle.std.proofs.Common.{◌≡◌, ℕ, zero, suc, ◌+◌, ◌-◌, ◌<◌, ◌≤◌, nat_eq, Bool, true, false, List, [], ◌∷◌, ◌++◌, length, map, take, drop, refl, sym, ap, subst, ◌∙◌, arith, append_assoc, length-append, get_or, add-one, drop-cons, Option, Some, None, IfSome, ◌⊎◌, inl, inr}
 use Rattle.std.specs.Option.{IfNone}
-use Rattle.std.specs.Prelude.{◌||◌}
-use Rattle.std.specs.List.{IsDistinct, list_any, AllByRecursion}
-use Rattle.std.specs.Cmp.{nat_eq_equiv}
-use Rattle.std.proofs.lemmas.Bool.Decides.{nat_tests}
+use Rattle.std.specs.List.{IsDistinct}
+use Rattle.std.proofs.lemmas.Bool.{cases_lt}
 use Rattle.p21_lex.specs.declared.token.TokenKind.TheVariants.{Int}
-use Rattle.std.proofs.lemmas.List.{take-append-drop, drop-map, length-map, take_all, take-append-le, append-nil}
-use Rattle.std.proofs.Math.Seq.{take-append_seam}
-use Rattle.std.proofs.lemmas.Map.Keys.{IsDistinct-push}
+use Rattle.std.proofs.lemmas.List.{take-append-drop, drop-map, length-map, take_all, take-append-le, append-nil, take_more, length-take}
+use Rattle.std.proofs.Math.Seq.{take-append_seam, get_or-append_seam}
+use Rattle.std.proofs.Math.ListN.{get_or-append}
 use Rattle.p21_parse.specs.declared.source.Source.{Source}
+use Rattle.p21_parse.specs.declared.names.NameFault.TheVariants.{TooMany, Duplicate}
 use Rattle.p21_parse.specs.Symbol.{Symbol, value, name, keyword, dashed, opening, closing, comma, semicolon, equals, symbol_of, symbols}
 use Rattle.p21_parse.specs.Numbers.{own_number, is_semicolon, numbers_in}
 use Rattle.p21_parse.specs.Refused.{file_numbers}
 use Rattle.p21_parse.specs.Source.{from, Has, IsNotHead, HasNoName}
-use Rattle.p21_parse.specs.Names.{before, IsOwn, HasNoOwn, AreFine, FaultAt}
+use Rattle.p21_parse.specs.Names.{before, IsOwn, HasNoOwn, AreFine, FaultAt, NamesAre, AreNumbers, AreOwn, IsFirstRepeat}
 use Rattle.p21_parse.proofs.Moves.{left}
 use Rattle.p21_parse.proofs.Owned.{behind_semicolon, numbers_append}
 
@@ -152,75 +151,122 @@ pub own_none : (s : Source) (at : ℕ) (o : Option ℕ) → IfNone o (HasNoName 
 own_none s at None h = nameless s at h (stands s at)
 own_none s at (Some n) h = tt
 
--- ---- the loop
+-- ---- the numbers so far
 
--- the names before a token are fine, and these are they
-pub record SoFar (s : Source) (at : ℕ) (keys : List ℕ) : Type 0 where
-  pub numbers : keys ≡ file_numbers (before s at)
-  pub few : length keys ≤ 200000
-  pub distinct : IsDistinct nat_eq keys
+pub nothing_yet : (s : Source) (numbers : List ℕ) → numbers ≡ [] → AreNumbers s 0 numbers
+nothing_yet s numbers is = record { numbers_are = is; few = omega (arith, ap length is) }
 
-pub nothing_yet : (s : Source) (keys : List ℕ) → keys ≡ [] → SoFar s 0 keys
-unfolding IsDistinct
-nothing_yet s keys is = record { numbers = is; few = omega (arith, ap length is); distinct = subst (λ (ks : List ℕ). IsDistinct nat_eq ks) (sym is) tt }
+pub passed : (s : Source) (at : ℕ) (numbers : List ℕ) → AreNumbers s at numbers → HasNoOwn s at → AreNumbers s (at + 1) numbers
+passed s at numbers l none = record { numbers_are = l.numbers_are ∙ sym none; few = l.few }
 
-pub fine : (s : Source) (at : ℕ) (keys : List ℕ) → SoFar s at keys → AreFine (before s at)
-fine s at keys l = subst (λ (ks : List ℕ). (length ks ≤ 200000) × IsDistinct nat_eq ks → AreFine (before s at)) (sym l.numbers) (λ h. record { few = h.0; distinct = h.1 }) (l.few, l.distinct)
-
-pub passed : (s : Source) (at : ℕ) (keys : List ℕ) → SoFar s at keys → HasNoOwn s at → SoFar s (at + 1) keys
-passed s at keys l none = record { numbers = l.numbers ∙ sym none; few = l.few; distinct = l.distinct }
-
--- one name more, which is new
-pub pushed : (s : Source) (at number : ℕ) (keys new : List ℕ) → SoFar s at keys → IsOwn s at number → length keys < 200000 → list_any (nat_eq number) keys ≡ false → new ≡ keys ++ number ∷ [] → SoFar s (at + 1) new
-pushed s at number keys new l own lt fresh is = record {
-  numbers = is ∙ ap (λ (ks : List ℕ). ks ++ number ∷ []) l.numbers ∙ sym own.owns;
-  few = omega (arith, ap length is, length-append keys (number ∷ []));
-  distinct = subst (λ (ks : List ℕ). IsDistinct nat_eq ks) (sym is) (IsDistinct-push nat_eq_equiv keys number l.distinct fresh);
+-- one name more
+pub pushed : (s : Source) (at number : ℕ) (numbers new : List ℕ) → AreNumbers s at numbers → IsOwn s at number → length numbers < 200000 → new ≡ numbers ++ number ∷ [] → AreNumbers s (at + 1) new
+pushed s at number numbers new l own lt is = record {
+  numbers_are = is ∙ ap (λ (ns : List ℕ). ns ++ number ∷ []) l.numbers_are ∙ sym own.owns;
+  few = omega (arith, ap length is, length-append numbers (number ∷ []));
 }
 
-pub too_many : (s : Source) (end at number : ℕ) (keys : List ℕ) → at < end → SoFar s at keys → IsOwn s at number → 200000 ≤ length keys → (n : ℕ) × FaultAt s end at n (λ ns. 200000 < length ns)
-too_many s end at number keys lt l own many = (
+pub one_too_many : (s : Source) (end at number : ℕ) (numbers : List ℕ) → at < end → AreNumbers s at numbers → IsOwn s at number → 200000 ≤ length numbers → AreOwn s end numbers (Some at)
+one_too_many s end at number numbers lt l own many = (lt, l, many, number, own)
+
+pub at_end : (s : Source) (end at : ℕ) (numbers : List ℕ) → at ≡ end → AreNumbers s at numbers → AreOwn s end numbers None
+at_end s end at numbers is l = subst (λ (k : ℕ). AreNumbers s k numbers) is l
+
+-- ---- where the name of a number stands
+
+-- before a token the name of the number at an index
+pub record NameOf (s : Source) (end : ℕ) (numbers : List ℕ) (i : ℕ) : Type 0 where
+  pub at : ℕ
+  pub early : at < end
+  pub owned_there : IsOwn s at (get_or numbers i 0)
+  pub before_it : file_numbers (before s at) ≡ take i numbers
+
+last_name : (s : Source) (at n : ℕ) (m : Symbol) (b : Bool) (numbers : List ℕ) (i : ℕ) → behind_semicolon false (before s at) ≡ b → Has s at m → numbers ≡ file_numbers (before s at) ++ numbers_in b (m ∷ [])
+    → i < length numbers → (i < length (file_numbers (before s at)) → NameOf s at (file_numbers (before s at)) i) → n ≡ suc at → NameOf s n numbers i
+last_name s at n m b numbers i behind has are lt earlier is = by b m behind has are
+  where
+    front : List ℕ
+    front = file_numbers (before s at)
+
+    kept : (more : List ℕ) → numbers ≡ front ++ more → i < length front → NameOf s n numbers i
+    kept more same inside =
+        let e = earlier inside in
+        let value : get_or front i 0 ≡ get_or numbers i 0 = sym (ap (λ (ns : List ℕ). get_or ns i 0) same ∙ get_or-append front more 0 i inside) in
+        let taken : take i front ≡ take i numbers = sym (ap (take i) same ∙ take-append-le i front more (omega (arith, inside))) in
+        record { at = e.at; early = omega (arith, e.early, is); owned_there = subst (λ (k : ℕ). IsOwn s e.at k) value e.owned_there; before_it = e.before_it ∙ taken }
+
+    none : (more : List ℕ) → more ≡ [] → numbers ≡ front ++ more → NameOf s n numbers i
+    none more empty same = kept more same (omega (arith, lt, ap length same, ap length empty, length-append front more))
+
+    new : (number : ℕ) → b ≡ true → Has s at (name number) → numbers ≡ front ++ number ∷ [] → NameOf s n numbers i
+    new number own there same = at_last number own there same (cases_lt i (length front))
+      where
+        at_last : (number : ℕ) → b ≡ true → Has s at (name number) → numbers ≡ front ++ number ∷ [] → (i < length front) ⊎ (length front ≤ i) → NameOf s n numbers i
+        at_last number own there same (inl inside) = kept (number ∷ []) same inside
+        at_last number own there same (inr past) =
+            let place : i ≡ length front = omega (arith, lt, past, ap length same, length-append front (number ∷ [])) in
+            let value : number ≡ get_or numbers i 0 = sym (ap (λ (ns : List ℕ). get_or ns i 0) same ∙ ap (λ (k : ℕ). get_or (front ++ number ∷ []) k 0) place ∙ get_or-append_seam front number [] 0) in
+            let taken : front ≡ take i numbers = sym (ap (take i) same ∙ ap (λ (k : ℕ). take k (front ++ number ∷ [])) place ∙ take-append_seam front (number ∷ [])) in
+            let owns : file_numbers (before s (at + 1)) ≡ front ++ number ∷ [] = more_numbers s at (name number) there ∙ ap (λ (c : Bool). front ++ numbers_in c (name number ∷ [])) (behind ∙ own) in
+            let owned_here : IsOwn s at number = record { has = there; owns = owns } in
+            record { at = at; early = omega (arith, is); owned_there = subst (λ (k : ℕ). IsOwn s at k) value owned_here; before_it = taken }
+
+    by : (c : Bool) (m : Symbol) → behind_semicolon false (before s at) ≡ c → Has s at m → numbers ≡ front ++ numbers_in c (m ∷ []) → NameOf s n numbers i
+    by true (name number) e there same = new number (sym behind ∙ e) there same
+    by true (value kind text) e there same = none [] refl same
+    by true (keyword w) e there same = none [] refl same
+    by true (dashed w) e there same = none [] refl same
+    by true opening e there same = none [] refl same
+    by true closing e there same = none [] refl same
+    by true comma e there same = none [] refl same
+    by true semicolon e there same = none [] refl same
+    by true equals e there same = none [] refl same
+    by false m e there same = none (numbers_in false (m ∷ [])) refl same
+
+pub name_of : (s : Source) (end : ℕ) (numbers : List ℕ) (i : ℕ) → end ≤ length s.tokens.now → numbers ≡ file_numbers (before s end) → i < length numbers → NameOf s end numbers i
+name_of s zero numbers i le are lt = absurd (omega (arith, lt, ap length are))
+name_of s (suc at) numbers i le are lt =
+    let there = stands s at (omega arith) in
+    let b = behind_semicolon false (before s at) in
+    let more : numbers ≡ file_numbers (before s at) ++ numbers_in b (there.0 ∷ []) = are ∙ ap (λ (k : ℕ). file_numbers (before s k)) (sym (add-one at)) ∙ more_numbers s at there.0 there.1 in
+    last_name s at (suc at) there.0 b numbers i refl there.1 more lt (λ inside. name_of s at (file_numbers (before s at)) i (omega arith) refl inside) refl
+
+-- ---- the first fault
+
+pub fine : (s : Source) (at : ℕ) (numbers : List ℕ) → AreNumbers s at numbers → IsDistinct nat_eq numbers → AreFine (before s at)
+fine s at numbers l distinct = record { few = omega (arith, l.few, ap length l.numbers_are); distinct = subst (λ (ns : List ℕ). IsDistinct nat_eq ns) l.numbers_are distinct }
+
+pub too_many : (s : Source) (end : ℕ) (numbers : List ℕ) (at : ℕ) → AreOwn s end numbers (Some at) → IsDistinct nat_eq numbers → NamesAre s end (Some (TooMany at))
+too_many s end numbers at (lt, l, many, number, own) distinct = (
   number,
   record {
     early = lt;
     has = own.has;
-    fine = fine s at keys l;
-    fault = omega (arith, ap length own.owns, length-append (file_numbers (before s at)) (number ∷ []), ap length l.numbers);
+    fine = fine s at numbers l distinct;
+    fault = omega (arith, many, ap length own.owns, length-append (file_numbers (before s at)) (number ∷ []), ap length l.numbers_are);
   },
 )
 
-pub last_of : (P : ℕ → Type 0) (keys : List ℕ) (number : ℕ) → AllByRecursion P (keys ++ number ∷ []) → P number
-last_of P [] number all = all.0
-last_of P (k ∷ keys) number all = last_of P keys number all.1
+-- a number that stands in the list a second time
+twice_at : (s : Source) (end last : ℕ) (numbers : List ℕ) (i : ℕ) → last ≤ end → last ≤ length s.tokens.now → AreNumbers s last numbers → i < length numbers → IsDistinct nat_eq (take i numbers)
+    → (IsDistinct nat_eq (take (i + 1) numbers) → ⊥) → NamesAre s end (Some (Duplicate (get_or numbers i 0)))
+twice_at s end last numbers i le inside l lt distinct again =
+    let there = name_of s last numbers i inside l.numbers_are lt in
+    let more : file_numbers (before s (there.at + 1)) ≡ take (i + 1) numbers = there.owned_there.owns ∙ ap (λ (ns : List ℕ). ns ++ get_or numbers i 0 ∷ []) there.before_it ∙ sym (take_more numbers i 0 lt) in
+    let few : length (take (i + 1) numbers) ≤ 200000 = omega (arith, l.few, length-take (i + 1) numbers) in
+    let few_before : length (take i numbers) ≤ 200000 = omega (arith, l.few, length-take i numbers) in (
+      there.at,
+      record {
+        early = omega (arith, there.early, le);
+        has = there.owned_there.has;
+        fine = record { few = omega (arith, few_before, ap length there.before_it); distinct = subst (λ (ns : List ℕ). IsDistinct nat_eq ns) (sym there.before_it) distinct };
+        fault = (omega (arith, few, ap length more), λ d. again (subst (λ (ns : List ℕ). IsDistinct nat_eq ns) more d));
+      },
+    )
 
-flips : (x y : ℕ) → nat_eq x y ≡ true → nat_eq y x ≡ true
-flips x y e = grind (arith, nat_tests)
+pub twice : (s : Source) (end : ℕ) (numbers : List ℕ) (stop : Option ℕ) (i : ℕ) → end ≤ length s.tokens.now → AreOwn s end numbers stop → IsFirstRepeat numbers (Some i) → NamesAre s end (Some (Duplicate (get_or numbers i 0)))
+twice s end numbers None i le own r = twice_at s end end numbers i (omega arith) le own r.0 r.1 r.2
+twice s end numbers (Some at) i le own r = twice_at s end at numbers i (omega (arith, own.0)) (omega (arith, own.0, le)) own.1 r.0 r.1 r.2
 
--- a number that stands in a list and once more behind it is not distinct
-pub not_twice : (number : ℕ) (keys : List ℕ) → list_any (nat_eq number) keys ≡ true → IsDistinct nat_eq (keys ++ number ∷ []) → ⊥
-unfolding IsDistinct
-not_twice number [] e d = absurd cc
-not_twice number (k ∷ keys) e d = by (nat_eq number k) refl e (λ more. not_twice number keys more d.1)
-  where
-    by : (b : Bool) → nat_eq number k ≡ b → (b || list_any (nat_eq number) keys) ≡ true → (list_any (nat_eq number) keys ≡ true → ⊥) → ⊥
-    by true same e rest = let differ : nat_eq k number ≡ false = last_of (λ y. nat_eq k y ≡ false) keys number d.0 in let both : true ≡ false = sym (flips number k same) ∙ differ in absurd cc
-    by false same e rest = rest e
-
-pub twice : (s : Source) (end at number : ℕ) (keys : List ℕ) → at < end → SoFar s at keys → IsOwn s at number → length keys < 200000 → list_any (nat_eq number) keys ≡ true
-    → (k : ℕ) × FaultAt s end k number (λ ns. (length ns ≤ 200000) × (IsDistinct nat_eq ns → ⊥))
-twice s end at number keys lt l own few again = (
-  at,
-  record {
-    early = lt;
-    has = own.has;
-    fine = fine s at keys l;
-    fault = (
-      omega (arith, ap length own.owns, length-append (file_numbers (before s at)) (number ∷ []), ap length l.numbers),
-      λ d. not_twice number keys again (subst (λ (ns : List ℕ). IsDistinct nat_eq ns) (own.owns ∙ ap (λ (ks : List ℕ). ks ++ number ∷ []) (sym l.numbers)) d),
-    );
-  },
-)
-
--- the names of all tokens up to the end
-pub at_end : (s : Source) (end at : ℕ) (keys : List ℕ) → at ≡ end → SoFar s at keys → AreFine (before s end)
-at_end s end at keys is l = subst (λ (k : ℕ). AreFine (before s k)) is (fine s at keys l)
+pub none_twice : (s : Source) (end : ℕ) (numbers : List ℕ) → AreOwn s end numbers None → IsDistinct nat_eq numbers → NamesAre s end None
+none_twice s end numbers own distinct = fine s end numbers own distinct

@@ -1,6 +1,7 @@
 -- Which exchanges may be read and printed.
 use Rattle.std.specs.Prelude.{ℕ, nat_eq, ◌≤◌, List, [], ◌∷◌, length, map}
 use Rattle.std.specs.List.{AllByRecursion, IsDistinct}
+use Rattle.p21_parse.specs.declared.limits.TheConstants.{MAX_INSTANCES, MAX_NESTING}
 use Rattle.p21_parse.specs.Tree.{InstanceTree, ExchangeTree}
 use Rattle.p21_parse.specs.Symbol.{Symbol, name}
 use Rattle.p21_parse.specs.Grammar.{IsInstance, IsExchange}
@@ -13,14 +14,14 @@ own_number_of i = i.number
 -- An exchange that the grammar and this profile's limits allow: at most 32 parentheses in one another, at most 200,000 instances, no number twice.
 pub record IsAllowed (x : ExchangeTree) : Type 0 where
   pub grammar : IsExchange x
-  pub shallow : exchange_nesting x ≤ 32
-  pub few : length x.items ≤ 200000
+  pub shallow : exchange_nesting x ≤ MAX_NESTING
+  pub few : length x.items ≤ MAX_INSTANCES
   pub distinct : IsDistinct nat_eq (map own_number_of x.items)
 
 -- Instances that the grammar and the limits allow, of which there may be so many at most. A number may come twice.
 pub record AreAllowed (most : ℕ) (items : List InstanceTree) : Type 0 where
   pub grammar : AllByRecursion IsInstance items
-  pub shallow : greatest instance_nesting items ≤ 32
+  pub shallow : greatest instance_nesting items ≤ MAX_NESTING
   pub few : length items ≤ most
 
 -- No name stands first, so instances have ended there.

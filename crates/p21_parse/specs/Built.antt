@@ -1,7 +1,8 @@
 -- Which lists of instances make an exchange, and the header that it gets.
-use Rattle.std.specs.Prelude.{ℕ, nat_eq, suc, ◌<◌, ◌≤◌, List, [], ◌∷◌, length, map, take, codes}
+use Rattle.std.specs.Prelude.{◌≡◌, ℕ, nat_eq, suc, ◌<◌, ◌≤◌, List, [], ◌∷◌, length, map, take, codes}
 use Rattle.std.specs.List.{AllByRecursion, IsDistinct}
 use Rattle.p21_lex.specs.declared.token.TokenKind.TheVariants as kinds
+use Rattle.p21_parse.specs.declared.limits.TheConstants.{MAX_INSTANCES, MAX_NESTING}
 use Rattle.p21_parse.specs.declared.error.BuildErr.{BuildErr}
 use Rattle.p21_parse.specs.declared.error.BuildErr.TheVariants.{Invalid, NoMemory}
 use Rattle.p21_parse.specs.Tree.{Tree, one, list, Trees, none, first, PartTree, InstanceTree}
@@ -15,7 +16,7 @@ use Rattle.p21_parse.specs.Allowed.{own_number_of, AreAllowed}
 
 -- The instances can be those of a file: the grammar and the limits allow them, no number comes twice, and each can be written.
 pub record AreValid (items : List InstanceTree) : Type 0 where
-  pub allowed : AreAllowed 200000 items
+  pub allowed : AreAllowed MAX_INSTANCES items
   pub distinct : IsDistinct nat_eq (map own_number_of items)
   pub spelled : AllByRecursion IsSpelledInstance items
 
@@ -65,13 +66,21 @@ standard_head = standard_description ∷ standard_name ∷ standard_schema ∷ [
 -- An instance that the grammar and the limits allow, and that can be written.
 pub record IsValid (i : InstanceTree) : Type 0 where
   pub grammar : IsInstance i
-  pub shallow : instance_nesting i ≤ 32
+  pub shallow : instance_nesting i ≤ MAX_NESTING
   pub spelled : IsSpelledInstance i
+
+-- These are the numbers of the first instances: each is valid, they are few enough, and with the next one, if there is one, that is not so.
+pub record AreFitting (items : List InstanceTree) (numbers : List ℕ) : Type 0 where
+  pub numbers_are : numbers ≡ map own_number_of (take (length numbers) items)
+  pub inside : length numbers ≤ length items
+  pub each : AllByRecursion IsValid (take (length numbers) items)
+  pub few : length numbers ≤ MAX_INSTANCES
+  pub ends : length numbers < length items → AreValid (take (suc (length numbers)) items) → ⊥
 
 -- the same of a part
 pub record IsValidPart (p : PartTree) : Type 0 where
   pub grammar : IsPart p
-  pub shallow : part_nesting p ≤ 32
+  pub shallow : part_nesting p ≤ MAX_NESTING
   pub spelled : AllByRecursion IsSymbol (spell_part p [])
 
 -- the same of a parameter in which so many parentheses may lie in one another at most

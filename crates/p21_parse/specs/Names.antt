@@ -1,6 +1,7 @@
 -- The names of instances in the front of a text, and their first fault.
 use Rattle.std.specs.Prelude.{◌≡◌, ℕ, ◌+◌, nat_eq, ◌≤◌, ◌<◌, List, [], ◌∷◌, ◌++◌, length, take, Option, Some, None}
 use Rattle.std.specs.List.{IsDistinct}
+use Rattle.p21_parse.specs.declared.limits.TheConstants.{MAX_INSTANCES}
 use Rattle.p21_parse.specs.declared.source.Source.{Source}
 use Rattle.p21_parse.specs.declared.names.NameFault.{NameFault}
 use Rattle.p21_parse.specs.declared.names.NameFault.TheVariants.{TooMany, Duplicate}
@@ -23,7 +24,7 @@ HasNoOwn s at = file_numbers (before s (at + 1)) ≡ file_numbers (before s at)
 
 -- The instances are few, and no number comes twice.
 pub record AreFine (front : List Symbol) : Type 0 where
-  pub few : length (file_numbers front) ≤ 200000
+  pub few : length (file_numbers front) ≤ MAX_INSTANCES
   pub distinct : IsDistinct nat_eq (file_numbers front)
 
 -- at the token the names have their first fault
@@ -36,5 +37,20 @@ pub record FaultAt (s : Source) (end at number : ℕ) (Fault : List ℕ → Type
 -- what the first fault is of the names among so many tokens
 abbrev pub NamesAre : Source → ℕ → Option NameFault → Type 0
 NamesAre s end None = AreFine (before s end)
-NamesAre s end (Some (TooMany at)) = (number : ℕ) × FaultAt s end at number (λ ns. 200000 < length ns)
-NamesAre s end (Some (Duplicate number)) = (at : ℕ) × FaultAt s end at number (λ ns. (length ns ≤ 200000) × (IsDistinct nat_eq ns → ⊥))
+NamesAre s end (Some (TooMany at)) = (number : ℕ) × FaultAt s end at number (λ ns. MAX_INSTANCES < length ns)
+NamesAre s end (Some (Duplicate number)) = (at : ℕ) × FaultAt s end at number (λ ns. (length ns ≤ MAX_INSTANCES) × (IsDistinct nat_eq ns → ⊥))
+
+-- The first numbers, so many, are distinct, and with one more they are not; or all are distinct.
+abbrev pub IsFirstRepeat : List ℕ → Option ℕ → Type 0
+IsFirstRepeat ns None = IsDistinct nat_eq ns
+IsFirstRepeat ns (Some i) = (i < length ns) × IsDistinct nat_eq (take i ns) × (IsDistinct nat_eq (take (i + 1) ns) → ⊥)
+
+-- the numbers of the instances in front of a token, of which there are few enough
+pub record AreNumbers (s : Source) (at : ℕ) (numbers : List ℕ) : Type 0 where
+  pub numbers_are : numbers ≡ file_numbers (before s at)
+  pub few : length numbers ≤ MAX_INSTANCES
+
+-- these are the numbers among so many tokens, or those before the token that names one more than may be
+abbrev pub AreOwn : Source → ℕ → List ℕ → Option ℕ → Type 0
+AreOwn s end numbers None = AreNumbers s end numbers
+AreOwn s end numbers (Some at) = (at < end) × AreNumbers s at numbers × (MAX_INSTANCES ≤ length numbers) × (number : ℕ) × IsOwn s at number

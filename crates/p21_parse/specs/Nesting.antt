@@ -1,6 +1,7 @@
 -- How many parentheses of parameters are open in one another: a part's own is the first, each list and each typed parameter adds one. The
 -- outer parenthesis of a complex instance does not count.
 use Rattle.std.specs.Prelude.{ℕ, suc, pred, max, ◌≤◌, Bool, true, false, if◌then◌else◌, List, [], ◌∷◌}
+use Rattle.p21_parse.specs.declared.limits.TheConstants.{MAX_NESTING}
 use Rattle.p21_parse.specs.Tree.{Tree, one, reference, list, typed, Trees, none, first, PartTree, InstanceTree, ExchangeTree}
 use Rattle.p21_parse.specs.Symbol.{Symbol, opening, closing, equals}
 
@@ -49,4 +50,4 @@ open_behind behind n (s ∷ ss) = open_behind (is_equals s) (open_after behind n
 -- At no symbol more than 32 are open.
 abbrev pub IsShallow : Bool → ℕ → List Symbol → Type 0
 IsShallow behind n [] = Unit {0}
-IsShallow behind n (s ∷ ss) = (open_after behind n s ≤ 32) × IsShallow (is_equals s) (open_after behind n s) ss
+IsShallow behind n (s ∷ ss) = (open_after behind n s ≤ MAX_NESTING) × IsShallow (is_equals s) (open_after behind n s) ss

@@ -2,6 +2,7 @@
 use Rattle.std.specs.Prelude.{◌≡◌, ℕ, nat_eq, ◌≤◌, true, false, List, length, drop}
 use Rattle.std.specs.List.{IsDistinct}
 use Rattle.p21_lex.specs.declared.token.Token.{Token}
+use Rattle.p21_parse.specs.declared.limits.TheConstants.{MAX_INSTANCES}
 use Rattle.p21_parse.specs.Symbol.{Symbol, symbols}
 use Rattle.p21_parse.specs.Grammar.{IsFile, AreInstances}
 use Rattle.p21_parse.specs.Nesting.{IsShallow}
@@ -16,7 +17,7 @@ file_numbers ss = numbers_in false ss
 -- The front of a file breaks no limit: at most 32 parentheses in one another, at most 200,000 instances, no number twice.
 pub record IsWithin (front : List Symbol) : Type 0 where
   pub shallow : IsShallow false 0 front
-  pub few : length (file_numbers front) ≤ 200000
+  pub few : length (file_numbers front) ≤ MAX_INSTANCES
   pub distinct : IsDistinct nat_eq (file_numbers front)
 
 -- What the refusal of a text is: whichever stands at the earliest token. A whole file has no place of Syntax.
@@ -26,8 +27,8 @@ RefusedAt bytes tokens (syntax place) =
 RefusedAt bytes tokens (too_deep place) =
     (left : ℕ) × DeepAt IsFile IsWithin (symbols bytes tokens) left × (place ≡ place_of bytes tokens left)
 RefusedAt bytes tokens (too_many place) =
-    (left : ℕ) × ManyAt IsFile IsWithin file_numbers 200000 (symbols bytes tokens) left × (place ≡ place_of bytes tokens left)
-RefusedAt bytes tokens (duplicate number) = TwiceAt IsFile IsWithin file_numbers 200000 (symbols bytes tokens) number
+    (left : ℕ) × ManyAt IsFile IsWithin file_numbers MAX_INSTANCES (symbols bytes tokens) left × (place ≡ place_of bytes tokens left)
+RefusedAt bytes tokens (duplicate number) = TwiceAt IsFile IsWithin file_numbers MAX_INSTANCES (symbols bytes tokens) number
 
 -- the numbers of instances that follow each other
 abbrev pub list_numbers : List Symbol → List ℕ

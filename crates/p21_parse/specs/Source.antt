@@ -5,6 +5,7 @@ use Rattle.p21_lex.specs.declared.token.TokenKind.{TokenKind}
 use Rattle.p21_lex.specs.declared.token.TokenKind.TheVariants as kinds
 use Rattle.p21_lex.specs.declared.token.Token.{Token}
 use Rattle.p21_lex.specs.Reading.{IsToken}
+use Rattle.p21_parse.specs.declared.limits.TheConstants.{MAX_NESTING}
 use Rattle.p21_parse.specs.declared.source.Source.{Source}
 use Rattle.p21_parse.specs.declared.source.Stop.{Stop}
 use Rattle.p21_parse.specs.declared.source.Stop.TheVariants.{Syntax, TooDeep, NoMemory}
@@ -102,11 +103,11 @@ pub record IsRead (s : Source) (n k : ℕ) (items : List Item) (at next : ℕ) (
   pub onward : at < next
   pub inside : next ≤ length s.tokens.now
   pub spells : from s at ≡ spelled (from s next)
-  pub goes : (stack : List Item) → run 32 n (items ++ stack) (from s at) ≡ run 32 k stack (from s next)
+  pub goes : (stack : List Item) → run MAX_NESTING n (items ++ stack) (from s at) ≡ run MAX_NESTING k stack (from s next)
 
 -- the machine stops where the reader does
 abbrev pub IsRefused : Source → ℕ → List Item → ℕ → Stop → Type 0
-IsRefused s n items at e = (stack : List Item) → Stops s e (run 32 n (items ++ stack) (from s at))
+IsRefused s n items at e = (stack : List Item) → Stops s e (run MAX_NESTING n (items ++ stack) (from s at))
 
 -- what stands behind an instance's name
 abbrev pub spell_behind_name : InstanceTree → List Symbol → List Symbol
@@ -117,10 +118,10 @@ pub record AreRead (s : Source) (at next : ℕ) (spelled : List Symbol → List 
   pub onward : at ≤ next
   pub inside : next ≤ length s.tokens.now
   pub spells : from s at ≡ spelled (from s next)
-  pub goes : (stack : List Item) → run 32 0 (instances ∷ stack) (from s at) ≡ run 32 0 (instances ∷ stack) (from s next)
+  pub goes : (stack : List Item) → run MAX_NESTING 0 (instances ∷ stack) (from s at) ≡ run MAX_NESTING 0 (instances ∷ stack) (from s next)
 
 abbrev pub AreRefused : Source → ℕ → Stop → Type 0
-AreRefused s at e = (stack : List Item) → Stops s e (run 32 0 (instances ∷ stack) (from s at))
+AreRefused s at e = (stack : List Item) → Stops s e (run MAX_NESTING 0 (instances ∷ stack) (from s at))
 
 -- ---- the header
 
@@ -158,7 +159,7 @@ pub record EntryRead (s : Source) (at next : ℕ) (spelled : List Symbol → Lis
   pub onward : at < next
   pub inside : next ≤ length s.tokens.now
   pub spells : from s at ≡ spelled (from s next)
-  pub goes : (stack : List Item) → run 32 0 (entries ∷ stack) (from s at) ≡ run 32 0 (entries ∷ stack) (from s next)
+  pub goes : (stack : List Item) → run MAX_NESTING 0 (entries ∷ stack) (from s at) ≡ run MAX_NESTING 0 (entries ∷ stack) (from s next)
 
 abbrev pub EntriesRefused : Source → ℕ → Stop → Type 0
 EntriesRefused s at e = IsRefused s 0 (entries ∷ []) at e
@@ -169,7 +170,7 @@ pub record EntriesRead (s : Source) (at next : ℕ) (before whole : List PartTre
   pub is : whole ≡ before ++ others
   pub read : IsRead s 0 0 (entries ∷ []) at next (λ r. spell_all spell_entry others (endsec ∷ semicolon ∷ r))
   pub are : AllByRecursion IsEntry others
-  pub nests : greatest part_nesting others ≤ 32
+  pub nests : greatest part_nesting others ≤ MAX_NESTING
 
 -- the items of the header's entries and of its end
 abbrev pub head_items : List Item
@@ -198,9 +199,9 @@ FileStops s NoMemory outcome = Unit {0}
 -- the file was read whole
 pub record FileRead (s : Source) (x : ExchangeTree) : Type 0 where
   pub grammar : IsExchange x
-  pub shallow : exchange_nesting x ≤ 32
+  pub shallow : exchange_nesting x ≤ MAX_NESTING
   pub spells : from s 0 ≡ spell_file x
-  pub goes : run 32 0 file_items (from s 0) ≡ done 0 []
+  pub goes : run MAX_NESTING 0 file_items (from s 0) ≡ done 0 []
 
 -- what stands before the instances, and behind them
 abbrev pub spell_start : List PartTree → List Symbol → List Symbol

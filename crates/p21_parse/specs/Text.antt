@@ -6,6 +6,7 @@ use Rattle.p21_lex.specs.Reading.{Reads, IsToken}
 use Rattle.p21_lex.specs.declared.error.LexErr.{LexErr}
 use Rattle.p21_lex.specs.declared.error.LexErr.TheVariants as faults
 use Rattle.p21_lex.specs.Refusal.{IsRefused}
+use Rattle.p21_parse.specs.declared.limits.TheConstants.{MAX_NESTING}
 use Rattle.p21_parse.specs.declared.error.ReadErr.{ReadErr}
 use Rattle.p21_parse.specs.declared.error.ReadErr.TheVariants.{Lex, Syntax, TooDeep, TooMany, Duplicate, NoMemory}
 use Rattle.p21_parse.specs.declared.source.Source.{Source}
@@ -71,4 +72,4 @@ left_in (deep left) = left
 
 -- the names among so many tokens refuse the text, where it goes on as a file at least up to there
 abbrev pub NamesRefuse : Source → ℕ → ReadErr → Type 0
-NamesRefuse s end e = left_in (run 32 0 file_items (from s 0)) ≤ length s.tokens.now - end → IsRefusedSource s e
+NamesRefuse s end e = left_in (run MAX_NESTING 0 file_items (from s 0)) ≤ length s.tokens.now - end → IsRefusedSource s e

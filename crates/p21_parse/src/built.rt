@@ -4,14 +4,14 @@ ghost use Rattle.std.specs.Prelude.{◌≡◌, map, IfOk, IfErr};
 ghost use Rattle.p21_parse.specs.View.{tree_of, part_of, instance_of, exchange_of};
 ghost use Rattle.p21_parse.specs.Allowed.{IsAllowed};
 ghost use Rattle.p21_parse.specs.Spelled.{IsSpelled};
-ghost use Rattle.p21_parse.specs.Built.{AreValid, IsRefusedList, empty_text, one_empty, standard_description, standard_name, standard_schema, standard_head};
+ghost use Rattle.p21_parse.specs.Built.{AreValid, AreFitting, IsRefusedList, empty_text, one_empty, standard_description, standard_name, standard_schema, standard_head};
 
 use crate::error::BuildErr;
 use crate::exchange::{Exchange, Instance, InstanceList, Part, PartList};
 use crate::fitting::is_valid;
-use crate::names::MOST_INSTANCES;
+use crate::limits::MAX_INSTANCES;
 use crate::param::{Param, ParamList};
-use indexmap::IndexSet;
+use crate::repeat::first_repeat;
 use nc_base::{NcText, NoMemory, Number};
 use std::alloc::Global;
 
@@ -88,22 +88,34 @@ fn standard_head(alloc: Global) -> Result<PartList, NoMemory>
     Ok(head)
 }
 
-/// Looks at instances one by one.
+/// The numbers of the instances before the first that can't stand in a file even by itself, or is one too many.
+fn fitting_numbers(alloc: Global, items: &[Instance]) -> Result<Vec<Number>, NoMemory>
+    ensures { IfOk result (λ v. AreFitting (map instance_of items.now) v.items) }
+{
+    let mut numbers = Vec::new(alloc);
+    for (at, item) in items.iter().enumerate() {
+        if at >= MAX_INSTANCES {
+            return Ok(numbers);
+        }
+        if !is_valid(item) {
+            return Ok(numbers);
+        }
+        numbers.push(item.number)?;
+    }
+    Ok(numbers)
+}
+
+/// Whether instances can stand in a file together.
 fn check(alloc: Global, items: &[Instance]) -> Result<(), BuildErr>
     ensures valid { IfOk result (λ _. AreValid (map instance_of items.now)) }
     ensures refused { IfErr result (IsRefusedList (map instance_of items.now)) }
 {
-    let mut seen: IndexSet<Number> = IndexSet::new(alloc);
-    for (at, item) in items.iter().enumerate() {
-        if at >= MOST_INSTANCES {
-            return Err(BuildErr::Invalid(at as u32));
-        }
-        if !is_valid(item) {
-            return Err(BuildErr::Invalid(at as u32));
-        }
-        if !seen.insert(item.number)? {
-            return Err(BuildErr::Invalid(at as u32));
-        }
+    let numbers = fitting_numbers(alloc, items)?;
+    if let Some(again) = first_repeat(alloc, numbers.as_slice())? {
+        return Err(BuildErr::Invalid(again as u32));
+    }
+    if numbers.len() < items.len() {
+        return Err(BuildErr::Invalid(numbers.len() as u32));
     }
     Ok(())
 }
@@ -113,9 +125,9 @@ impl Exchange {
     /// `FILE_DESCRIPTION((''),'2;1');` `FILE_NAME('','',(''),(''),'','','');` `FILE_SCHEMA((''));`.
     ///
     /// # Errors
-    /// The least index, counted from 0, of an instance that the grammar or the limits don't allow (at most 32 parentheses in one another,
-    /// at most 200,000 instances), that can't be written (a number that no name has, a text or a keyword that no token spells), or whose
-    /// number stood before. Or want of memory.
+    /// The least index, counted from 0, of an instance that the grammar or the limits don't allow (at most `MAX_NESTING` parentheses in one another,
+    /// at most `MAX_INSTANCES` instances), that can't be written (a number that no name has, a text or a keyword that no token spells), or whose
+    /// number stood before. Or `NoMemory`, where memory runs out.
     pub fn of(alloc: Global, items: InstanceList) -> Result<Exchange, BuildErr>
         ensures built { IfOk result (λ x. exchange_of x ≡ record { head = standard_head; items = map instance_of items }) }
         ensures valid { IfOk result (λ x. IsAllowed (exchange_of x) × IsSpelled (exchange_of x)) }

@@ -17,10 +17,10 @@ pub enum ReadErr {
     /// Nothing of the grammar goes on at this place, a byte offset: the token there, or the end.
     #[error("no exchange goes on so at byte {0}")]
     Syntax(u32),
-    /// The parenthesis at this place, a byte offset, is the 33rd that is open.
+    /// The parenthesis at this place, a byte offset, is one more than the `MAX_NESTING` that may be open.
     #[error("more than 32 parentheses are open at byte {0}")]
     TooDeep(u32),
-    /// The name at this place, a byte offset, is that of instance 200,001.
+    /// The name at this place, a byte offset, is that of one instance more than the `MAX_INSTANCES` that a file may have.
     #[error("more than 200,000 instances at byte {0}")]
     TooMany(u32),
     /// The number of an instance stands a second time.

@@ -10,6 +10,7 @@ ghost use Rattle.p21_parse.specs.Machine.{iso, header, data_word, endsec, end_is
 ghost use Rattle.p21_parse.specs.Source.{IsSource, from, IsRead, IsRefused, start_items, last_items, spell_start, spell_last, FileRead, FileStops};
 
 use crate::exchange::{Exchange, PartList};
+use crate::limits::MAX_NESTING;
 use crate::source::{Source, Stop};
 use std::alloc::Global;
 
@@ -18,7 +19,7 @@ impl Source<'_> {
     fn start(&self, alloc: Global) -> Result<(PartList, usize), Stop>
         requires { IsSource self.now }
         ensures read { IfOk result (λ x. IsRead self.now 0 0 start_items 0 x.1 (spell_start (map part_of x.0))) }
-        ensures is { IfOk result (λ x. IsHead (map part_of x.0) × (greatest part_nesting (map part_of x.0) ≤ 32)) }
+        ensures is { IfOk result (λ x. IsHead (map part_of x.0) × (greatest part_nesting (map part_of x.0) ≤ MAX_NESTING)) }
         ensures refused { IfErr result (IsRefused self.now 0 start_items 0) }
     {
         let behind = self.phrase(0, b"ISO-10303-21")?;
@@ -44,7 +45,7 @@ impl Source<'_> {
     pub fn file(&self, alloc: Global) -> Result<Exchange, Stop>
         requires { IsSource self.now }
         ensures read { IfOk result (λ x. FileRead self.now (exchange_of x)) }
-        ensures refused { IfErr result (λ e. FileStops self.now e (run 32 0 file_items (from self.now 0))) }
+        ensures refused { IfErr result (λ e. FileStops self.now e (run MAX_NESTING 0 file_items (from self.now 0))) }
     {
         let (head, at) = self.start(alloc)?;
         let (items, rest) = self.instances(alloc, at)?;

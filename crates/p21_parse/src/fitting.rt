@@ -8,12 +8,13 @@ ghost use Rattle.p21_parse.specs.View.{tree_of, trees_of, part_of, instance_of};
 ghost use Rattle.p21_parse.specs.Built.{Fits, IsValidPart, IsValid};
 
 use crate::exchange::{Instance, Part};
+use crate::limits::MAX_NESTING;
 use crate::param::{Param, ParamList};
 use crate::spelling::{is_binary, is_enumeration, is_keyword, is_name, is_number, is_text};
 use nc_base::NcText;
 use p21_lex::TokenKind;
 
-/// Whether a parameter fits where so many parentheses more may lie in one another.
+/// Whether a parameter can be written where at most `most` more parentheses may lie in one another.
 #[cycle(fits)]
 fn fits(param: &Param, most: u32) -> bool
     ensures { IsTrue result ↔ Fits most (tree_of param.now) }
@@ -71,10 +72,10 @@ fn all_fit(params: &[Param], most: u32) -> bool
 fn is_valid_part(part: &Part) -> bool
     ensures { IsTrue result ↔ IsValidPart (part_of part.now) }
 {
-    is_keyword(part.keyword.bytes()) && all_fit(part.parameters.as_slice(), 31)
+    is_keyword(part.keyword.bytes()) && all_fit(part.parameters.as_slice(), MAX_NESTING - 1)
 }
 
-/// Whether each part can.
+/// Whether each of these parts can stand in a file.
 fn are_valid_parts(parts: &[Part]) -> bool
     ensures { IsTrue result ↔ AllByRecursion IsValidPart (map part_of parts.now) }
 {

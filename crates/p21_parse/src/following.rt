@@ -9,13 +9,13 @@ ghost use Rattle.p21_parse.specs.Following.{AreInstancesFrom, AreRefusedFrom, Is
 use crate::error::ReadErr;
 use crate::exchange::InstanceList;
 use crate::source::{Source, Stop};
-use p21_lex::{Token, tokens_fit};
+use p21_lex::{MAX_TEXT, Token, tokens_fit};
 use std::alloc::Global;
 
 impl Source<'_> {
     /// Why reading stopped, with its place.
     fn fault(&self, stop: Stop) -> ReadErr
-        requires { length self.now.bytes.now ≤ 268435456 }
+        requires { length self.now.bytes.now ≤ MAX_TEXT }
         ensures { IsFaultOf self.now stop result }
     {
         match stop {
@@ -33,7 +33,7 @@ impl Source<'_> {
         most: u32,
     ) -> Result<(InstanceList, usize), ReadErr>
         requires source { IsSource self.now }
-        requires short { length self.now.bytes.now ≤ 268435456 }
+        requires short { length self.now.bytes.now ≤ MAX_TEXT }
         requires from { from ≤ length self.now.tokens.now }
         ensures found { IfOk result (λ x. AreInstancesFrom self.now.bytes.now self.now.tokens.now from most (map instance_of x.0) x.1) }
         ensures refused { IfErr result (AreRefusedFrom self.now.bytes.now self.now.tokens.now from most) }
@@ -60,7 +60,7 @@ impl Source<'_> {
 ///
 /// # Errors
 /// Whichever refusal stands at the earliest token: `Syntax` or `TooDeep` inside an instance, or `TooMany` at the name of an instance
-/// more than `most`. Or want of memory. Never `Lex` or `Duplicate`.
+/// more than `most`. Or `NoMemory`, where memory runs out. Never `Lex` or `Duplicate`.
 pub fn instances(
     alloc: Global,
     bytes: &[u8],
@@ -68,7 +68,7 @@ pub fn instances(
     from: u32,
     most: u32,
 ) -> Result<(InstanceList, u32), ReadErr>
-    requires short { length bytes.now ≤ 268435456 }
+    requires short { length bytes.now ≤ MAX_TEXT }
     requires tokens { tokens_of bytes.now ≡ Ok tokens.now }
     requires from { from ≤ length tokens.now }
     ensures found { IfOk result (λ x. AreInstancesFrom bytes.now tokens.now from most (map instance_of x.0) x.1) }

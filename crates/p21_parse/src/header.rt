@@ -13,6 +13,7 @@ ghost use Rattle.p21_parse.specs.Machine.{fixed, parameter, counted, named, sche
 ghost use Rattle.p21_parse.specs.Source.{IsSource, from, IsRead, IsRefused, AreNames, schema_entry, head_items, EntriesRead, IsEnd, IsNoEnd, EntryRead, EntriesRefused};
 
 use crate::exchange::{Part, PartList};
+use crate::limits::MAX_NESTING;
 use crate::param::{Param, ParamList};
 use crate::source::{Source, Stop};
 use nc_base::{NcText, NoMemory};
@@ -42,13 +43,13 @@ impl Source<'_> {
         Ok(next)
     }
 
-    /// So many parameters more than one, behind the opening parenthesis of an entry, and the closing one.
+    /// The parameters of an entry behind its opening parenthesis, one and `more` others, and the closing one.
     fn counted(&self, alloc: Global, at: usize, more: u32) -> Result<(ParamList, usize), Stop>
         requires source { IsSource self.now }
         requires at { at ≤ length self.now.tokens.now }
         ensures read { IfOk result (λ x. IsRead self.now 1 0 (parameter ∷ counted more []) at x.1 (spell_list (trees_of x.0))) }
         ensures count { IfOk result (λ x. count (trees_of x.0) ≡ more + 1) }
-        ensures are { IfOk result (λ x. AreParameters (trees_of x.0) × (1 + nestings (trees_of x.0) ≤ 32)) }
+        ensures are { IfOk result (λ x. AreParameters (trees_of x.0) × (1 + nestings (trees_of x.0) ≤ MAX_NESTING)) }
         ensures refused { IfErr result (IsRefused self.now 1 (parameter ∷ counted more []) at) }
     {
         let mut params = ParamList::new(alloc);
@@ -79,7 +80,7 @@ impl Source<'_> {
         requires plain { is_user text.now ≡ false }
         requires keyword { word text.now ≡ keyword text.now }
         ensures read { IfOk result (λ x. IsRead self.now 0 0 (named text.now more []) at x.1 (spell_entry (part_of x.0))) }
-        ensures is { IfOk result (λ x. IsNamed text.now (more + 1) (part_of x.0) × (part_nesting (part_of x.0) ≤ 32)) }
+        ensures is { IfOk result (λ x. IsNamed text.now (more + 1) (part_of x.0) × (part_nesting (part_of x.0) ≤ MAX_NESTING)) }
         ensures refused { IfErr result (IsRefused self.now 0 (named text.now more []) at) }
     {
         let start = self.word(at, text)?;
@@ -137,7 +138,7 @@ impl Source<'_> {
         requires source { IsSource self.now }
         requires at { at ≤ length self.now.tokens.now }
         ensures read { IfOk result (λ x. IsRead self.now 0 0 schema_entry at x.1 (spell_entry (part_of x.0))) }
-        ensures is { IfOk result (λ x. IsSchema (part_of x.0) × (part_nesting (part_of x.0) ≤ 32)) }
+        ensures is { IfOk result (λ x. IsSchema (part_of x.0) × (part_nesting (part_of x.0) ≤ MAX_NESTING)) }
         ensures refused { IfErr result (IsRefused self.now 0 schema_entry at) }
     {
         let start = self.word(at, b"FILE_SCHEMA")?;
@@ -175,7 +176,7 @@ impl Source<'_> {
         requires at { at ≤ length self.now.tokens.now }
         requires goes { IsNoEnd (from self.now at) }
         ensures read { IfOk result (λ x. EntryRead self.now at x.1 (spell_entry (part_of x.0))) }
-        ensures is { IfOk result (λ x. IsEntry (part_of x.0) × (part_nesting (part_of x.0) ≤ 32)) }
+        ensures is { IfOk result (λ x. IsEntry (part_of x.0) × (part_nesting (part_of x.0) ≤ MAX_NESTING)) }
         ensures refused { IfErr result (EntriesRefused self.now at) }
     {
         let Some(word) = self.keyword(at) else {
@@ -217,7 +218,7 @@ impl Source<'_> {
         requires source { IsSource self.now }
         requires at { at ≤ length self.now.tokens.now }
         ensures read { IfOk result (λ x. IsRead self.now 0 0 head_items at x.1 (λ r. spell_all spell_entry (map part_of x.0) (endsec ∷ semicolon ∷ r))) }
-        ensures is { IfOk result (λ x. IsHead (map part_of x.0) × (greatest part_nesting (map part_of x.0) ≤ 32)) }
+        ensures is { IfOk result (λ x. IsHead (map part_of x.0) × (greatest part_nesting (map part_of x.0) ≤ MAX_NESTING)) }
         ensures refused { IfErr result (IsRefused self.now 0 head_items at) }
     {
         let (description, behind) = self.named(alloc, at, b"FILE_DESCRIPTION", 1)?;

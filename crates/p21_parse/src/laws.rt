@@ -13,12 +13,14 @@ ghost use Rattle.p21_parse.specs.Places.{Refusal};
 ghost use Rattle.p21_parse.specs.Refused.{file_numbers, RefusedAt, RefusedFrom};
 ghost use Rattle.p21_parse.specs.Allowed.{own_number_of, IsAllowed, AreAllowed, IsNoName};
 
+use crate::limits::MAX_NESTING;
+
 /// The laws of the grammar (ISO 10303-21, exchange structure, in this profile): symbols spell at most one exchange, and
 /// tokens either spell one within the limits or have a refusal, never both and never two. What refusals count in symbols,
 /// open parentheses and the numbers of instances, is what stands in the tree. It does nothing.
 pub fn grammar_laws()
     ensures one { (x y : ExchangeTree) → spell_file x ≡ spell_file y → x ≡ y }
-    ensures nested { (x : ExchangeTree) → IsExchange x → (IsShallow false 0 (spell_file x) ↔ (exchange_nesting x ≤ 32)) }
+    ensures nested { (x : ExchangeTree) → IsExchange x → (IsShallow false 0 (spell_file x) ↔ (exchange_nesting x ≤ MAX_NESTING)) }
     ensures numbers { (x : ExchangeTree) → file_numbers (spell_file x) ≡ map own_number_of x.items }
     ensures single { (bytes : List ℕ) (tokens : List Token) (r q : Refusal) → AllByRecursion (IsToken bytes) tokens
         → RefusedAt bytes tokens r → RefusedAt bytes tokens q → r ≡ q }

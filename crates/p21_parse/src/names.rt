@@ -2,16 +2,14 @@
 
 ghost use Rattle.std.specs.Prelude.{◌≡◌, ◌<◌, ◌≤◌, ◌∷◌, [], length, IfOk, IfSome, IfNone};
 ghost use Rattle.p21_parse.specs.Source.{IsSource};
-ghost use Rattle.p21_parse.specs.Names.{IsOwn, HasNoOwn, NamesAre};
+ghost use Rattle.p21_parse.specs.Names.{IsOwn, HasNoOwn, AreOwn, NamesAre};
 
+use crate::limits::MAX_INSTANCES;
+use crate::repeat::first_repeat;
 use crate::source::Source;
-use indexmap::IndexSet;
 use nc_base::{NoMemory, Number};
 use p21_lex::TokenKind;
 use std::alloc::Global;
-
-/// How many instances a file has at most.
-pub const MOST_INSTANCES: usize = 200_000;
 
 /// What is wrong with the names of instances.
 #[derive(Clone, Copy, Debug, PartialEq, Eq)]
@@ -38,24 +36,42 @@ impl Source<'_> {
         self.name(at)
     }
 
+    /// The numbers of instances among so many tokens, at most as many as a file may have, and where the name of one more stands, if one does.
+    fn own_numbers(
+        &self,
+        alloc: Global,
+        end: usize,
+    ) -> Result<(Vec<Number>, Option<usize>), NoMemory>
+        requires source { IsSource self.now }
+        requires end { end ≤ length self.now.tokens.now }
+        ensures { IfOk result (λ r. AreOwn self.now end r.0.items r.1) }
+    {
+        let mut numbers = Vec::new(alloc);
+        for at in 0..end {
+            let Some(number) = self.own_name(at) else {
+                continue;
+            };
+            if numbers.len() >= MAX_INSTANCES {
+                return Ok((numbers, Some(at)));
+            }
+            numbers.push(number)?;
+        }
+        Ok((numbers, None))
+    }
+
     /// The first fault of the names of instances among so many tokens.
     pub fn name_fault(&self, alloc: Global, end: usize) -> Result<Option<NameFault>, NoMemory>
         requires source { IsSource self.now }
         requires end { end ≤ length self.now.tokens.now }
         ensures { IfOk result (NamesAre self.now end) }
     {
-        let mut seen: IndexSet<Number> = IndexSet::new(alloc);
-        for at in 0..end {
-            let Some(number) = self.own_name(at) else {
-                continue;
-            };
-            if seen.len() >= MOST_INSTANCES {
-                return Ok(Some(NameFault::TooMany(at)));
-            }
-            if !seen.insert(number)? {
-                return Ok(Some(NameFault::Duplicate(number)));
-            }
+        let (numbers, one_more) = self.own_numbers(alloc, end)?;
+        if let Some(again) = first_repeat(alloc, numbers.as_slice())? {
+            return Ok(Some(NameFault::Duplicate(numbers[again])));
         }
-        Ok(None)
+        match one_more {
+            Some(at) => Ok(Some(NameFault::TooMany(at))),
+            None => Ok(None),
+        }
     }
 }

@@ -43,7 +43,7 @@ impl ParamList {
         }
     }
 
-    /// The empty list with room for so many parameters, so that pushing them takes no more memory.
+    /// The empty list, with room for so many parameters: a hint, of which no clause promises that they fit without more memory.
     pub fn with_capacity(alloc: Global, capacity: u32) -> Result<Self, NoMemory>
         ensures { IfOk result (λ list. trees_of list ≡ none) }
     {

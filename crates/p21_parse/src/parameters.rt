@@ -11,6 +11,7 @@ ghost use Rattle.p21_parse.specs.View.{tree_of, trees_of};
 ghost use Rattle.p21_parse.specs.Machine.{parameter, parameter_list, more_parameters};
 ghost use Rattle.p21_parse.specs.Source.{IsSource, Has, IsRead, IsRefused};
 
+use crate::limits::MAX_NESTING;
 use crate::param::{Param, ParamList};
 use crate::source::{Source, Stop};
 use nc_base::{NcText, NoMemory};
@@ -41,7 +42,7 @@ impl Source<'_> {
     /// It is no promise of what follows.
     fn width(&self, at: usize) -> u32
         requires { at ≤ length self.now.tokens.now }
-        ensures { result ≤ 65536 }
+        ensures { result ≤ MOST_ROOM }
     {
         let mut inner: u32 = 0;
         let mut commas: u32 = 0;
@@ -65,9 +66,9 @@ impl Source<'_> {
     pub fn parameter(&self, alloc: Global, at: usize, n: u32) -> Result<(Param, usize), Stop>
         requires source { IsSource self.now }
         requires at { at ≤ length self.now.tokens.now }
-        requires nest { n ≤ 32 }
+        requires nest { n ≤ MAX_NESTING }
         ensures read { IfOk result (λ x. IsRead self.now n n (parameter ∷ []) at x.1 (spell (tree_of x.0))) }
-        ensures is { IfOk result (λ x. IsParameter (tree_of x.0) × (n + nesting (tree_of x.0) ≤ 32)) }
+        ensures is { IfOk result (λ x. IsParameter (tree_of x.0) × (n + nesting (tree_of x.0) ≤ MAX_NESTING)) }
         ensures refused { IfErr result (IsRefused self.now n (parameter ∷ []) at) }
     {
         if let Some(word) = self.keyword(at) {
@@ -86,10 +87,10 @@ impl Source<'_> {
     #[cycle(params)]
     fn typed(&self, alloc: Global, word: &[u8], at: usize, n: u32) -> Result<(Param, usize), Stop>
         requires source { IsSource self.now }
-        requires nest { n ≤ 32 }
+        requires nest { n ≤ MAX_NESTING }
         requires word { Has self.now at (keyword word.now) }
         ensures read { IfOk result (λ x. IsRead self.now n n (parameter ∷ []) at x.1 (spell (tree_of x.0))) }
-        ensures is { IfOk result (λ x. IsParameter (tree_of x.0) × (n + nesting (tree_of x.0) ≤ 32)) }
+        ensures is { IfOk result (λ x. IsParameter (tree_of x.0) × (n + nesting (tree_of x.0) ≤ MAX_NESTING)) }
         ensures refused { IfErr result (IsRefused self.now n (parameter ∷ []) at) }
     {
         let inner = self.enter(at + 1, n)?;
@@ -102,13 +103,13 @@ impl Source<'_> {
     #[cycle(params)]
     fn list(&self, alloc: Global, at: usize, n: u32) -> Result<(Param, usize), Stop>
         requires source { IsSource self.now }
-        requires nest { n ≤ 32 }
+        requires nest { n ≤ MAX_NESTING }
         requires mark { Has self.now at opening }
         ensures read { IfOk result (λ x. IsRead self.now n n (parameter ∷ []) at x.1 (spell (tree_of x.0))) }
-        ensures is { IfOk result (λ x. IsParameter (tree_of x.0) × (n + nesting (tree_of x.0) ≤ 32)) }
+        ensures is { IfOk result (λ x. IsParameter (tree_of x.0) × (n + nesting (tree_of x.0) ≤ MAX_NESTING)) }
         ensures refused { IfErr result (IsRefused self.now n (parameter ∷ []) at) }
     {
-        if n >= 32 {
+        if n >= MAX_NESTING {
             return Err(Stop::TooDeep(at));
         }
         let (params, next) = self.parameter_list(alloc, at + 1, n + 1)?;
@@ -125,9 +126,9 @@ impl Source<'_> {
     ) -> Result<(ParamList, usize), Stop>
         requires source { IsSource self.now }
         requires at { at ≤ length self.now.tokens.now }
-        requires nest { n ≤ 32 }
+        requires nest { n ≤ MAX_NESTING }
         ensures read { IfOk result (λ x. IsRead self.now n (pred n) (parameter_list ∷ []) at x.1 (spell_list (trees_of x.0))) }
-        ensures are { IfOk result (λ x. AreParameters (trees_of x.0) × (n + nestings (trees_of x.0) ≤ 32)) }
+        ensures are { IfOk result (λ x. AreParameters (trees_of x.0) × (n + nestings (trees_of x.0) ≤ MAX_NESTING)) }
         ensures refused { IfErr result (IsRefused self.now n (parameter_list ∷ []) at) }
     {
         if self.is_mark(at, TokenKind::Close) {
@@ -141,10 +142,10 @@ impl Source<'_> {
     pub fn parameters(&self, alloc: Global, at: usize, n: u32) -> Result<(ParamList, usize), Stop>
         requires source { IsSource self.now }
         requires at { at ≤ length self.now.tokens.now }
-        requires nest { n ≤ 32 }
+        requires nest { n ≤ MAX_NESTING }
         ensures read { IfOk result (λ x. IsRead self.now n (pred n) (parameter ∷ more_parameters ∷ []) at x.1 (spell_list (trees_of x.0))) }
         ensures some { IfOk result (λ x. 0 < count (trees_of x.0)) }
-        ensures are { IfOk result (λ x. AreParameters (trees_of x.0) × (n + nestings (trees_of x.0) ≤ 32)) }
+        ensures are { IfOk result (λ x. AreParameters (trees_of x.0) × (n + nestings (trees_of x.0) ≤ MAX_NESTING)) }
         ensures refused { IfErr result (IsRefused self.now n (parameter ∷ more_parameters ∷ []) at) }
     {
         let mut params = ParamList::with_capacity(alloc, self.width(at))?;

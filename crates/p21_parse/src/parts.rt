@@ -12,6 +12,7 @@ ghost use Rattle.p21_parse.specs.Machine.{fixed, parameter_list, part, more_part
 ghost use Rattle.p21_parse.specs.Source.{IsSource, IsRead, IsRefused, AreRead, AreRefused, HasNoName, from, spell_behind_name};
 
 use crate::exchange::{Instance, InstanceList, Part, PartList};
+use crate::limits::MAX_NESTING;
 use crate::param::ParamList;
 use crate::source::{Source, Stop};
 use nc_base::{NcText, Number};
@@ -31,7 +32,7 @@ impl Source<'_> {
         requires source { IsSource self.now }
         requires at { at ≤ length self.now.tokens.now }
         ensures read { IfOk result (λ x. IsRead self.now 0 0 (fixed opening ∷ parameter_list ∷ []) at x.1 (λ r. opening ∷ spell_list (trees_of x.0) r)) }
-        ensures are { IfOk result (λ x. AreParameters (trees_of x.0) × (1 + nestings (trees_of x.0) ≤ 32)) }
+        ensures are { IfOk result (λ x. AreParameters (trees_of x.0) × (1 + nestings (trees_of x.0) ≤ MAX_NESTING)) }
         ensures refused { IfErr result (IsRefused self.now 0 (fixed opening ∷ parameter_list ∷ []) at) }
     {
         let inner = self.enter(at, 0)?;
@@ -43,7 +44,7 @@ impl Source<'_> {
         requires source { IsSource self.now }
         requires at { at ≤ length self.now.tokens.now }
         ensures read { IfOk result (λ x. IsRead self.now 0 0 (part ∷ []) at x.1 (spell_part (part_of x.0))) }
-        ensures is { IfOk result (λ x. IsPart (part_of x.0) × (part_nesting (part_of x.0) ≤ 32)) }
+        ensures is { IfOk result (λ x. IsPart (part_of x.0) × (part_nesting (part_of x.0) ≤ MAX_NESTING)) }
         ensures refused { IfErr result (IsRefused self.now 0 (part ∷ []) at) }
     {
         let Some(word) = self.keyword(at) else {
@@ -66,7 +67,7 @@ impl Source<'_> {
         requires at { at ≤ length self.now.tokens.now }
         ensures read { IfOk result (λ x. IsRead self.now 0 0 (part ∷ more_parts ∷ []) at x.1 (λ r. spell_all spell_part (map part_of x.0) (closing ∷ r))) }
         ensures some { IfOk result (λ x. 0 < length (map part_of x.0)) }
-        ensures are { IfOk result (λ x. AllByRecursion IsPart (map part_of x.0) × (greatest part_nesting (map part_of x.0) ≤ 32)) }
+        ensures are { IfOk result (λ x. AllByRecursion IsPart (map part_of x.0) × (greatest part_nesting (map part_of x.0) ≤ MAX_NESTING)) }
         ensures refused { IfErr result (IsRefused self.now 0 (part ∷ more_parts ∷ []) at) }
     {
         let mut parts = PartList::new(alloc);
@@ -86,7 +87,7 @@ impl Source<'_> {
         requires at { at ≤ length self.now.tokens.now }
         ensures read { IfOk result (λ x. IsRead self.now 0 0 (body ∷ []) at x.1 (spell_parts x.0.complex (map part_of x.0.parts))) }
         ensures has { IfOk result (λ x. HasParts x.0.complex (map part_of x.0.parts)) }
-        ensures are { IfOk result (λ x. AllByRecursion IsPart (map part_of x.0.parts) × (greatest part_nesting (map part_of x.0.parts) ≤ 32)) }
+        ensures are { IfOk result (λ x. AllByRecursion IsPart (map part_of x.0.parts) × (greatest part_nesting (map part_of x.0.parts) ≤ MAX_NESTING)) }
         ensures refused { IfErr result (IsRefused self.now 0 (body ∷ []) at) }
     {
         if self.is_mark(at, TokenKind::Open) {
@@ -111,7 +112,7 @@ impl Source<'_> {
         requires source { IsSource self.now }
         requires at { at ≤ length self.now.tokens.now }
         ensures read { IfOk result (λ x. IsRead self.now 0 0 (behind_name ∷ fixed semicolon ∷ []) at x.1 (spell_behind_name (instance_of x.0))) }
-        ensures is { IfOk result (λ x. IsInstance (instance_of x.0) × (instance_nesting (instance_of x.0) ≤ 32)) }
+        ensures is { IfOk result (λ x. IsInstance (instance_of x.0) × (instance_nesting (instance_of x.0) ≤ MAX_NESTING)) }
         ensures number { IfOk result (λ x. (instance_of x.0).number ≡ number) }
         ensures refused { IfErr result (IsRefused self.now 0 (behind_name ∷ fixed semicolon ∷ []) at) }
     {
@@ -135,7 +136,7 @@ impl Source<'_> {
         requires at { at ≤ length self.now.tokens.now }
         ensures read { IfOk result (λ x. AreRead self.now at x.1 (spell_all spell_instance (map instance_of x.0))) }
         ensures end { IfOk result (λ x. HasNoName (from self.now x.1)) }
-        ensures are { IfOk result (λ x. AllByRecursion IsInstance (map instance_of x.0) × (greatest instance_nesting (map instance_of x.0) ≤ 32)) }
+        ensures are { IfOk result (λ x. AllByRecursion IsInstance (map instance_of x.0) × (greatest instance_nesting (map instance_of x.0) ≤ MAX_NESTING)) }
         ensures refused { IfErr result (AreRefused self.now at) }
     {
         let mut items = InstanceList::new(alloc);

@@ -18,12 +18,12 @@ use crate::exchange::Exchange;
 use crate::laws::grammar_laws;
 use crate::names::NameFault;
 use crate::source::{Source, Stop};
-use p21_lex::{Token, reading_laws, tokens};
+use p21_lex::{MAX_TEXT, Token, reading_laws, tokens};
 use std::alloc::Global;
 
 /// The tokens of a text.
 fn tokens_of(alloc: Global, bytes: &[u8]) -> Result<Vec<Token>, ReadErr>
-    requires { length bytes.now ≤ 268435456 }
+    requires { length bytes.now ≤ MAX_TEXT }
     ensures found { IfOk result (λ v. Reads 0 v.items bytes.now) }
     ensures inside { IfOk result (λ v. AllByRecursion (IsToken bytes.now) v.items) }
     ensures refused { IfErr result (IsRefusedText bytes.now) }
@@ -35,7 +35,7 @@ fn tokens_of(alloc: Global, bytes: &[u8]) -> Result<Vec<Token>, ReadErr>
 impl Source<'_> {
     /// Where the token at an index begins: a byte offset, at the end the text's length.
     pub fn place(&self, at: usize) -> u32
-        requires { length self.now.bytes.now ≤ 268435456 }
+        requires { length self.now.bytes.now ≤ MAX_TEXT }
         ensures { result ≡ start_of self.now.bytes.now (drop at self.now.tokens.now) }
     {
         match self.tokens.get(at) {
@@ -47,7 +47,7 @@ impl Source<'_> {
     /// Looks at the names of instances among so many tokens.
     fn check_names(&self, alloc: Global, end: usize) -> Result<(), ReadErr>
         requires source { IsSource self.now }
-        requires short { length self.now.bytes.now ≤ 268435456 }
+        requires short { length self.now.bytes.now ≤ MAX_TEXT }
         requires end { end ≤ length self.now.tokens.now }
         ensures fine { IfOk result (λ _. AreFine (before self.now end)) }
         ensures refused { IfErr result (NamesRefuse self.now end) }
@@ -62,7 +62,7 @@ impl Source<'_> {
     /// The exchange that the tokens spell.
     fn exchange(&self, alloc: Global) -> Result<Exchange, ReadErr>
         requires source { IsSource self.now }
-        requires short { length self.now.bytes.now ≤ 268435456 }
+        requires short { length self.now.bytes.now ≤ MAX_TEXT }
         ensures read { IfOk result (λ x. IsExchangeOf self.now (exchange_of x)) }
         ensures refused { IfErr result (IsRefusedSource self.now) }
     {
@@ -84,13 +84,13 @@ impl Source<'_> {
     }
 }
 
-/// The exchange that a text of at most 268,435,456 bytes holds (ISO 10303-21, clear text encoding, in this profile).
+/// The exchange that a text of at most `MAX_TEXT` bytes holds (ISO 10303-21, clear text encoding, in this profile).
 ///
 /// # Errors
 /// The first fault of the text's tokens. Where there is none, of the other refusals that which stands at the earliest token; where too
-/// many instances and a number that comes twice stand at one, there are too many. Or want of memory.
+/// many instances and a number that comes twice stand at one, there are too many. Or `NoMemory`, where memory runs out.
 pub fn read(alloc: Global, bytes: &[u8]) -> Result<Exchange, ReadErr>
-    requires { length bytes.now ≤ 268435456 }
+    requires { length bytes.now ≤ MAX_TEXT }
     ensures found { IfOk result (λ x. IsText bytes.now (exchange_of x)) }
     ensures refused { IfErr result (IsRefusedText bytes.now) }
 {

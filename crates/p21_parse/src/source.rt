@@ -9,6 +9,7 @@ ghost use Rattle.p21_parse.specs.View.{tree_of};
 ghost use Rattle.p21_parse.specs.Machine.{Item, fixed, same};
 ghost use Rattle.p21_parse.specs.Source.{IsSource, from, Stands, Has, IsMark, IsNotHead, HasNoKeyword, HasNoName, HasNoValue, HasNoText, IsValue, IsRefused, IsOther, is_marked, value_at, keyword_at};
 
+use crate::limits::MAX_NESTING;
 use crate::param::Param;
 use nc_base::{NcText, NoMemory, Number};
 use p21_lex::{Token, TokenKind, name_number};
@@ -172,13 +173,13 @@ impl Source<'_> {
         requires source { IsSource self.now }
         requires at { at ≤ length self.now.tokens.now }
         ensures next { IfOk result (λ next. next ≡ at + 1) }
-        ensures found { IfOk result (λ _. Has self.now at opening × (n < 32)) }
+        ensures found { IfOk result (λ _. Has self.now at opening × (n < MAX_NESTING)) }
         ensures refused { IfErr result (IsRefused self.now n (fixed opening ∷ []) at) }
     {
         if !self.is_mark(at, TokenKind::Open) {
             return Err(Stop::Syntax(at));
         }
-        if n >= 32 {
+        if n >= MAX_NESTING {
             return Err(Stop::TooDeep(at));
         }
         Ok(at + 1)

@@ -1,41 +1,17 @@
 //! Which symbols are those of tokens (ISO 10303-21, tokens, with this profile's ranges), of whatever length they are.
 
 ghost use Rattle.std.specs.Prelude.{◌≡◌, ◌⊎◌, ◌↔◌, IsTrue};
-ghost use Rattle.p21_lex.specs.Class.{is_upper, is_plain, is_hex, is_legal, Each};
+ghost use Rattle.p21_lex.specs.Class.{is_plain, is_hex, Each};
 ghost use Rattle.p21_lex.specs.Reading.{IsKeyword, IsInside, Spells};
 ghost use Rattle.p21_lex.specs.declared.token.TokenKind.TheVariants as kinds;
 ghost use Rattle.p21_parse.specs.Symbol.{value, name, keyword};
 ghost use Rattle.p21_parse.specs.Begins.{IsSymbol};
 
-use nc_base::Number;
-use p21_lex::{TokenKind, spells};
+use nc_base::{MAX_NUMBER, Number};
+use p21_lex::{MAX_DIGITS, TokenKind, is_hex, is_legal, is_plain, is_upper, spells};
 
-/// No spelling of a number is longer: two signs, a point, an `E` and 38 digits.
-const MOST_IN_NUMBER: usize = 42;
-
-fn is_upper(byte: u8) -> bool
-    ensures { result ≡ is_upper byte }
-{
-    matches!(byte, b'A'..=b'Z' | b'_')
-}
-
-fn is_plain(byte: u8) -> bool
-    ensures { result ≡ is_plain byte }
-{
-    matches!(byte, b'A'..=b'Z' | b'_' | b'0'..=b'9')
-}
-
-fn is_hex(byte: u8) -> bool
-    ensures { result ≡ is_hex byte }
-{
-    matches!(byte, b'0'..=b'9' | b'A'..=b'F')
-}
-
-fn is_legal(byte: u8) -> bool
-    ensures { result ≡ is_legal byte }
-{
-    byte >= b' ' || matches!(byte, b'\t' | b'\n' | b'\r')
-}
+/// No spelling of a number is longer: two signs, a point, an `E` and the digits.
+const MOST_IN_NUMBER: usize = MAX_DIGITS + 4;
 
 fn are_plain(bytes: &[u8]) -> bool
     ensures { IsTrue result ↔ Each is_plain bytes.now }
@@ -77,7 +53,7 @@ pub fn is_keyword(text: &[u8]) -> bool
 pub fn is_name(number: Number) -> bool
     ensures { IsTrue result ↔ IsSymbol (name number) }
 {
-    1 <= number && number <= 2_147_483_647
+    1 <= number && number <= MAX_NUMBER
 }
 
 /// Whether a text is a number of this kind.

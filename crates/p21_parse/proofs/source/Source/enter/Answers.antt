@@ -14,6 +14,6 @@ returns-then-not-is_mark-clause-refused c =
 pub returns-clause-found : goal.returns-clause-found
 returns-clause-found c = (c.is_mark.ensures.found c.if-not-is_mark.false opening opens, omega arith)
 
-pub returns-then-n-ge32-clause-refused : goal.returns-then-n-ge32-clause-refused
-returns-then-n-ge32-clause-refused c =
+pub returns-then-n-ge-MAX_NESTING-clause-refused : goal.returns-then-n-ge-MAX_NESTING-clause-refused
+returns-then-n-ge-MAX_NESTING-clause-refused c =
     sunk c.args.self.now (fixed opening) c.args.n (suc c.args.n) c.args.at opening [] (c.is_mark.ensures.found c.if-not-is_mark.false opening opens) refl refl (omega arith)
