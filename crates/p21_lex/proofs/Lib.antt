@@ -14,3 +14,4 @@ pub mod Pieces
 pub mod Faults
 pub mod Refused
 pub mod Refusals
+pub mod Slices

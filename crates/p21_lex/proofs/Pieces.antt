@@ -27,7 +27,7 @@ pub is_token : (at : ℕ) (bytes : List ℕ) (r : Result Piece LexErr) → r ≡
 is_token at bytes r is kind text rest parts spelled stopped = is ∙ ap (front at) parts ∙ spelled_front kind text rest spelled stopped at
 
 -- at the end of a text every spelling stops
-stops_at_end : (kind : TokenKind) (text : List ℕ) → Stops kind text []
+pub stops_at_end : (kind : TokenKind) (text : List ℕ) → Stops kind text []
 stops_at_end Word text = tt
 stops_at_end UserWord text = tt
 stops_at_end Name text = tt

@@ -31,7 +31,7 @@ listed_not ts e h = cc
 
 -- ---- a gap or a token more in front
 
-upto_gap : (at : ℕ) (gap rest : List ℕ) (ts : List Token) (place : ℕ) (left : List ℕ) → IsGap gap → ReadsUpTo (at + length gap) ts rest place left → ReadsUpTo at ts (gap ++ rest) place left
+pub upto_gap : (at : ℕ) (gap rest : List ℕ) (ts : List Token) (place : ℕ) (left : List ℕ) → IsGap gap → ReadsUpTo (at + length gap) ts rest place left → ReadsUpTo at ts (gap ++ rest) place left
 upto_gap at gap rest [] place left here h =
     let parts : gap ++ rest ≡ (gap ++ concat h.0) ++ left = ap (λ (r : List ℕ). gap ++ r) h.2 ∙ sym (append_assoc gap (concat h.0) left) in
     (gap ∷ h.0, (here, h.1), parts, omega (arith, h.3, length-append gap (concat h.0)))
@@ -40,7 +40,7 @@ upto_gap at gap rest (t ∷ ts) place left here h =
     let start : t.start ≡ at + length (concat (gap ∷ h.0)) = omega (arith, h.5, length-append gap (concat h.0)) in
     (gap ∷ h.0, h.1, h.2, (here, h.3), parts, start, h.6, h.7, h.8, h.9)
 
-upto_token : (at : ℕ) (kind : TokenKind) (bytes : List ℕ) (len : ℕ) (ts : List Token) (place : ℕ) (left : List ℕ) → TokenFound kind bytes len → ReadsUpTo (at + len) ts (drop len bytes) place left
+pub upto_token : (at : ℕ) (kind : TokenKind) (bytes : List ℕ) (len : ℕ) (ts : List Token) (place : ℕ) (left : List ℕ) → TokenFound kind bytes len → ReadsUpTo (at + len) ts (drop len bytes) place left
     → ReadsUpTo at (token_at at kind len ∷ ts) bytes place left
 upto_token at kind bytes len ts place left found h =
     let parts : bytes ≡ take len bytes ++ drop len bytes = sym (take-append-drop len bytes) in
@@ -84,7 +84,7 @@ is_refused bytes e h = refused_in (length bytes) 0 bytes e (omega arith) h
 
 -- ---- a fault is refused
 
-fault_some : (place : ℕ) (rest : List ℕ) (e : LexErr) → IsFault place rest e → 0 < length rest
+pub fault_some : (place : ℕ) (rest : List ℕ) (e : LexErr) → IsFault place rest e → 0 < length rest
 fault_some place [] e fault = absurd (refused_not e (Gap 0) (sym (fault_refused place [] e fault) ∙ front_nothing place))
 fault_some place (b ∷ bs) e fault = omega arith
 

@@ -127,10 +127,10 @@ found bytes ts e = found_in (length bytes) 0 bytes ts (omega arith) e
 
 -- ---- what reads the text is its tokens
 
-filled_front : (text rest : List ℕ) → 0 < length text → 0 < length (text ++ rest)
+pub filled_front : (text rest : List ℕ) → 0 < length text → 0 < length (text ++ rest)
 filled_front text rest some = omega (arith, length-append text rest)
 
-room_behind : (text rest : List ℕ) (steps less : ℕ) → 0 < length text → length (text ++ rest) ≤ steps → steps ≡ suc less → length rest ≤ less
+pub room_behind : (text rest : List ℕ) (steps less : ℕ) → 0 < length text → length (text ++ rest) ≤ steps → steps ≡ suc less → length rest ≤ less
 room_behind text rest steps less some enough is = omega (arith, length-append text rest)
 
 pub only_piece : (steps at : ℕ) (text rest : List ℕ) (piece : Piece) (r : Result (List Token) LexErr) → front at (text ++ rest) ≡ answered piece → piece_len piece ≡ length text → 0 < length text

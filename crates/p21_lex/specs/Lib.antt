@@ -5,3 +5,4 @@ pub mod Front
 pub mod Tokens
 pub mod Reading
 pub mod Refusal
+pub mod Slice

@@ -14,9 +14,12 @@ use crate::piece::{Piece, front};
 use crate::token::Token;
 use std::alloc::Global;
 
+/// How many bytes a text has at most, 256 MiB, so that each place in it is a `u32` with room to spare (this profile).
+pub const MAX_TEXT: u32 = 268_435_456;
+
 /// Adds the token of a piece that lies at a place; a gap adds none.
-fn add(found: &mut Vec<Token>, at: u32, piece: Piece) -> Result<(), LexErr>
-    requires { at + piece_len piece ≤ 268435456 }
+pub fn add(found: &mut Vec<Token>, at: u32, piece: Piece) -> Result<(), LexErr>
+    requires { at + piece_len piece ≤ MAX_TEXT }
     ensures added { OnOk result (found.new.items ≡ found.old.items ++ piece_tokens at piece) }
     ensures memory { IfErr result (λ e. e ≡ LexErr.NoMemory) }
 {
@@ -31,7 +34,7 @@ fn add(found: &mut Vec<Token>, at: u32, piece: Piece) -> Result<(), LexErr>
 }
 
 fn all(alloc: Global, bytes: &[u8]) -> Result<Vec<Token>, LexErr>
-    requires { length bytes.now ≤ 268435456 }
+    requires { length bytes.now ≤ MAX_TEXT }
     ensures { Gives (λ v. v.items) result (tokens_of bytes.now) }
 {
     let mut found = Vec::new(alloc);
@@ -50,7 +53,7 @@ fn all(alloc: Global, bytes: &[u8]) -> Result<Vec<Token>, LexErr>
 /// The tokens of a text (ISO 10303-21, clear text encoding) in their order, each as long as its form allows; blanks and
 /// comments between them are left out. The error is the first from left to right.
 pub fn tokens(alloc: Global, bytes: &[u8]) -> Result<Vec<Token>, LexErr>
-    requires { length bytes.now ≤ 268435456 }
+    requires { length bytes.now ≤ MAX_TEXT }
     // What is found reads the text.
     ensures found { IfOk result (λ v. Reads 0 v.items bytes.now) }
     // What reads the text is found, unless memory runs out.

@@ -11,6 +11,7 @@ ghost use Rattle.p21_lex.specs.declared.token.TokenKind.{TokenKind};
 
 use crate::class::{digits_len, is_digit, is_upper, plain_len, word_len};
 use crate::error::LexErr;
+use crate::lexer::MAX_TEXT;
 use crate::number::{MAX_NAME, capped_value, fraction_len, int_len};
 use crate::scan::{Unclosed, binary_end, comment_end, text_end};
 use crate::token::TokenKind;
@@ -115,7 +116,7 @@ fn enumeration(at: u32, bytes: &[u8]) -> Result<Piece, LexErr>
 
 /// A text, behind its opening apostrophe.
 fn text(at: u32, bytes: &[u8]) -> Result<Piece, LexErr>
-    requires { at + length bytes.now < 268435456 }
+    requires { at + length bytes.now < MAX_TEXT }
     ensures exact { result ≡ closed TokenKind.Text at (text_end bytes.now) }
     ensures within { IfOk result (λ p. (0 < piece_len p) × (piece_len p ≤ 1 + length bytes.now)) }
 {
@@ -128,7 +129,7 @@ fn text(at: u32, bytes: &[u8]) -> Result<Piece, LexErr>
 
 /// A binary, behind its opening quotation mark.
 fn binary(at: u32, bytes: &[u8]) -> Result<Piece, LexErr>
-    requires { at + length bytes.now < 268435456 }
+    requires { at + length bytes.now < MAX_TEXT }
     ensures exact { result ≡ closed TokenKind.Binary at (binary_end bytes.now) }
     ensures within { IfOk result (λ p. (0 < piece_len p) × (piece_len p ≤ 1 + length bytes.now)) }
 {
@@ -142,7 +143,7 @@ fn binary(at: u32, bytes: &[u8]) -> Result<Piece, LexErr>
 /// A comment, behind its slash.
 #[tactic(auto, unfolding(crate::specs::Front::comment))]
 fn comment(at: u32, bytes: &[u8]) -> Result<Piece, LexErr>
-    requires { at + length bytes.now < 268435456 }
+    requires { at + length bytes.now < MAX_TEXT }
     ensures exact { result ≡ comment at bytes.now }
     ensures within { IfOk result (λ p. (0 < piece_len p) × (piece_len p ≤ 1 + length bytes.now)) }
 {
@@ -185,7 +186,7 @@ fn marked(at: u32, byte: u8) -> Result<Piece, LexErr>
 
 #[tactic(auto, unfolding(crate::specs::Front::front))]
 fn piece_at(at: u32, bytes: &[u8]) -> Result<Piece, LexErr>
-    requires { at + length bytes.now ≤ 268435456 }
+    requires { at + length bytes.now ≤ MAX_TEXT }
     ensures exact { result ≡ front at bytes.now }
     ensures within { IfOk result (λ p. piece_len p ≤ length bytes.now) }
     ensures filled { 0 < length bytes.now → IfOk result (λ p. 0 < piece_len p) }
@@ -210,7 +211,7 @@ fn piece_at(at: u32, bytes: &[u8]) -> Result<Piece, LexErr>
 /// What stands at the front of bytes of which the first lies at a place: a blank, a comment or a token, each token as
 /// long as its form allows, or why none of them does (ISO 10303-21, clear text encoding). An empty text has a gap of no bytes.
 pub fn front(at: u32, bytes: &[u8]) -> Result<Piece, LexErr>
-    requires { at + length bytes.now ≤ 268435456 }
+    requires { at + length bytes.now ≤ MAX_TEXT }
     // What is found there has the form of its kind.
     ensures found { 0 < length bytes.now → IfOk result (IsPiece bytes.now) }
     // What has the form, and does not go on, is found.
@@ -239,7 +240,7 @@ fn is_answer(answer: Result<Piece, LexErr>, piece: Piece) -> bool
 
 /// Whether a text is the spelling of a kind: all of it, and within the kind's range.
 pub fn spells(kind: TokenKind, text: &[u8]) -> bool
-    requires { length text.now ≤ 268435456 }
+    requires { length text.now ≤ MAX_TEXT }
     ensures { IsTrue result ↔ Spells kind text.now }
 {
     is_answer(front(0, text), Piece::Spelling(kind, text.len()))
