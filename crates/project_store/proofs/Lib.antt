@@ -1,9 +1,9 @@
-pub mod Keyed
+pub mod PlaceLemmas
 pub mod Counting
 pub mod FaultLemmas
 pub mod Inserting
 pub mod Reaching
-pub mod Rising
 pub mod PutLemmas
 pub mod Sound
+pub mod MissingLemmas
 pub mod Least

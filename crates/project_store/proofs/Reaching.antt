@@ -1,15 +1,21 @@
 -- The set of what is reached, grown from its members in turn.
 use Rattle.std.proofs.Common.{◌≡◌, ℕ, ◌+◌, ◌<◌, ◌≤◌, inl, inr, List, [], ◌∷◌, length, refl, ap, sym, subst, ◌∙◌, arith, ◌↔◌}
-use Rattle.std.specs.Prelude.{Contains, slice_get, Option, Some, None}
+use Rattle.std.specs.Prelude.{Contains, slice_get, Option, Some, None, Result, Ok, Err, IfOk}
+use Rattle.std.specs.List.Sorted.{IsStrictlyIncreasing}
+use Rattle.nc_base.specs.declared.memory.NoMemory.{NoMemory}
 use Rattle.std.specs.Option.{option_map_or}
 use Rattle.entity_types.specs.declared.entity.Entity.{Entity}
 use Rattle.entity_types.specs.Entity.{uses_of}
-use Rattle.project_store.specs.Inserts.{insert_all, uses_at}
-use Rattle.project_store.specs.Reach.{Reaches, root, used}
+use Rattle.project_store.specs.Inserts.{insert_all, AreMembers, uses_at}
+use Rattle.project_store.specs.Reach.{Reaches, root, used, IsClosure}
 use borrow.Author.Count.{below_more}
 use Rattle.std.proofs.lemmas.Option.{get_or_from_slice_get, slice_get-get_or}
 use Rattle.std.proofs.lemmas.List.Elements.{Contains-push}
-use Rattle.project_store.proofs.Inserting.{Contains-old, Contains-new, Contains-back, slice_get-insert_all, length-insert_all, none_there, only_there}
+use Rattle.std.specs.BTreeSet.{BTreeSet}
+use Rattle.std.proofs.lemmas.Cmp.{nat_cmp_total}
+use Rattle.std.proofs.lemmas.Map.Lookups.{exact_unsigned}
+use Rattle.std.proofs.lemmas.Map.Views.{btree_set_contains_iff}
+use Rattle.project_store.proofs.Inserting.{among_holds, holds_among, Contains-old, Contains-new, Contains-back, slice_get-insert_all, length-insert_all, none_there, only_there}
 
 -- the members are reached, and what the first i use is there
 pub record Grows (entities : ℕ → Option Entity) (n : ℕ) (ks : List ℕ) (i : ℕ) : Type 0 where
@@ -55,7 +61,7 @@ complete entities n ks i g l m (used k r entity h e c) =
     let at : slice_get ks there.0 ≡ Some k = slice_get-get_or ks there.0 k there.1 ∙ ap Some there.2 in
     g.done there.0 k r (omega (arith, there.1)) at (at_uses entities k r entity e c)
 
-pub Grows-end : (entities : ℕ → Option Entity) (n : ℕ) (ks : List ℕ) (i : ℕ) → Grows entities n ks i → length ks ≤ i → (m : ℕ) → Contains ks m ↔ Reaches entities n m
+Grows-end : (entities : ℕ → Option Entity) (n : ℕ) (ks : List ℕ) (i : ℕ) → Grows entities n ks i → length ks ≤ i → (m : ℕ) → Contains ks m ↔ Reaches entities n m
 Grows-end entities n ks i g l m = (g.sound m, complete entities n ks i g l m)
 
 -- the set begins with its root
@@ -66,3 +72,23 @@ Grows-start entities n = record {
   done = λ k m r h. absurd (omega arith);
   bound = omega arith;
 }
+
+-- ---- numbers in a tree
+
+member : (ks : List ℕ) (set : BTreeSet ℕ) (m : ℕ) → AreMembers ks set → Contains set.keys m ↔ Contains ks m
+member ks set m are =
+    let iff = btree_set_contains_iff nat_cmp_total exact_unsigned set m in
+    (λ h. among_holds ks m (sym (are m) ∙ iff.1 h), λ h. iff.0 (are m ∙ holds_among ks m h))
+
+-- the members of the tree are those of the list, and so are reached
+pub members_reached : (entities : ℕ → Option Entity) (n : ℕ) (ks : List ℕ) (i : ℕ) (set : BTreeSet ℕ) → AreMembers ks set → Grows entities n ks i → length ks ≤ i → (m : ℕ) → Contains set.keys m ↔ Reaches entities n m
+members_reached entities n ks i set are g l m =
+    let list = Grows-end entities n ks i g l m in
+    let tree = member ks set m are in
+    (λ h. list.0 (tree.0 h), λ r. tree.1 (list.1 r))
+
+-- the members of the tree in order are the closure
+pub closed : (entities : ℕ → Option Entity) (n : ℕ) (keys : List ℕ) (r : Result (List ℕ) NoMemory) → ((m : ℕ) → Contains keys m ↔ Reaches entities n m)
+    → IfOk r (λ (list : List ℕ). list ≡ keys) → IfOk r IsStrictlyIncreasing → IfOk r (IsClosure entities n)
+closed entities n keys (Ok list) members same rising = record { rising = rising; members = subst (λ (ks : List ℕ). (m : ℕ) → Contains ks m ↔ Reaches entities n m) (sym same) members }
+closed entities n keys (Err e) members same rising = tt

@@ -27,7 +27,7 @@ second_none : (a b : Option StoreErr) → first_of a b ≡ None → b ≡ None
 second_none None b h = h
 second_none (Some x) b h = cc
 
-mapped_none : {A B : Type 0} (f : A → B) (o : Option A) → option_map f o ≡ None → o ≡ None
+pub mapped_none : {A B : Type 0} (f : A → B) (o : Option A) → option_map f o ≡ None → o ≡ None
 mapped_none f None h = refl
 mapped_none f (Some x) h = cc
 
@@ -35,12 +35,12 @@ never_none : {A : Type 0} (b : Bool) (x y : A) → cond b (Some x) (Some y) ≡ 
 never_none true x y h = cc
 never_none false x y h = cc
 
-lesser_left : (a b : Option (ℕ × ℕ)) → lesser a b ≡ None → a ≡ None
+pub lesser_left : (a b : Option (ℕ × ℕ)) → lesser a b ≡ None → a ≡ None
 lesser_left None b h = refl
 lesser_left (Some x) None h = h
 lesser_left (Some x) (Some y) h = absurd (never_none (nat_lt y.0 x.0) y x h)
 
-lesser_right : (a b : Option (ℕ × ℕ)) → lesser a b ≡ None → b ≡ None
+pub lesser_right : (a b : Option (ℕ × ℕ)) → lesser a b ≡ None → b ≡ None
 lesser_right None b h = h
 lesser_right (Some x) None h = refl
 lesser_right (Some x) (Some y) h = absurd (never_none (nat_lt y.0 x.0) y x h)
@@ -58,11 +58,11 @@ no_fault fault test (x ∷ es) e h f =
     no_fault_by fault x e (find test es) (test x) (mapped_none (λ n. (x.number, n)) (fault x) (lesser_left _ _ h))
     (no_fault fault test es e (lesser_right _ _ h)) f
 
-and_left : (a b : Bool) → a && b ≡ true → a ≡ true
+pub and_left : (a b : Bool) → a && b ≡ true → a ≡ true
 and_left true b h = refl
 and_left false b h = h
 
-and_right : (a b : Bool) → a && b ≡ true → b ≡ true
+pub and_right : (a b : Bool) → a && b ≡ true → b ≡ true
 and_right true b h = h
 and_right false b h = absurd (false≢true h)
 
@@ -83,7 +83,7 @@ right_by all used field t f true more_t more_f right rest v g =
     (subst (λ x. list_all (is_of_target all used.target) (references_of x) ≡ true) same_field right)
 right_by all used field t f false more_t more_f right rest v g = rest v g
 
-none_then : (b : Bool) (rest : Option ℕ) (p : ℕ) → cond b rest (Some p) ≡ None → (b ≡ true) × (rest ≡ None)
+pub none_then : (b : Bool) (rest : Option ℕ) (p : ℕ) → cond b rest (Some p) ≡ None → (b ≡ true) × (rest ≡ None)
 none_then true rest p h = (refl, h)
 none_then false rest p h = cc
 

@@ -1,4 +1,5 @@
 pub mod Entities
+pub mod Places
 pub mod Build
 pub mod Reach
 pub mod Inserts

@@ -1,35 +1,34 @@
 //! Entities in file order, found by number.
 
-ghost use Rattle.std.specs.Prelude.{◌≡◌, ◌<◌, ℕ, [], ◌∷◌, ◌++◌, nat_eq, length, slice_get, None, Some, OnOk, IfOk, option_copied};
+ghost use Rattle.std.specs.Prelude.{◌≡◌, ◌<◌, [], ◌∷◌, nat_eq, length, slice_get, None, Some, IfOk, option_copied};
 ghost use Rattle.std.specs.List.{IsDistinct};
-ghost use Rattle.entity_types.specs.declared.entity.Entity.{Entity};
-ghost use Rattle.indexmap.specs.IndexMap.{get};
 ghost use Rattle.project_store.specs.Build.{count_fault, projects_of};
 ghost use Rattle.project_store.specs.Entities.{numbers_of, entity_at};
 
+use crate::places::{Place, index_of, ordered_places};
 use entity_types::Entity;
-use indexmap::IndexMap;
 use nc_base::{NoMemory, Number};
 use std::alloc::Global;
 use std::marker::Model;
 
-/// Entities of distinct numbers. Contracts see the list of them.
+/// Entities of distinct numbers. Contracts see the list of them. Beside them stand their places in order of number: no hash of
+/// numbers, which a file picks, so that no file can have them collide.
 #[derive(Drop)]
 pub struct Index {
-    map: IndexMap<Number, Entity>,
+    entities: Vec<Entity>,
+    places: Vec<Place>,
 }
 
 impl Model for Index {
-    ghost use Rattle.std.specs.Prelude.{◌≡◌, List};
+    ghost use Rattle.std.specs.Prelude.{List};
     ghost use Rattle.entity_types.specs.declared.entity.Entity.{Entity};
-    ghost use Rattle.indexmap.specs.IndexMap.{keys, values};
-    ghost use Rattle.project_store.specs.Entities.{numbers_of};
+    ghost use Rattle.project_store.specs.Places.{IsIndex};
 
     ghost Value = { List Entity };
 
-    ghost view = { λ a. values a.map };
+    ghost view = { λ a. a.entities.items };
 
-    ghost invariant = { λ a. keys a.map ≡ numbers_of (values a.map) };
+    ghost invariant = { λ a. IsIndex a.places.items a.entities.items };
 }
 
 impl Index {
@@ -38,11 +37,8 @@ impl Index {
         requires { IsDistinct nat_eq (numbers_of entities.items) }
         ensures { IfOk result (λ index. index ≡ entities.items) }
     {
-        let mut map = IndexMap::with_capacity(alloc, entities.len())?;
-        for entity in entities {
-            put(&mut map, entity)?;
-        }
-        Ok(Index { map })
+        let places = ordered_places(alloc, entities.as_slice())?;
+        Ok(Index { entities, places })
     }
 
     /// How many entities there are.
@@ -50,7 +46,7 @@ impl Index {
         ensures len { result ≡ length self.now }
         ensures distinct { IsDistinct nat_eq (numbers_of self.now) }
     {
-        self.map.len()
+        self.entities.len()
     }
 
     /// The entity at index `i`.
@@ -58,7 +54,7 @@ impl Index {
         requires { i < length self.now }
         ensures { slice_get self.now i ≡ Some result.now }
     {
-        self.map.get_index(i).unwrap().1
+        &self.entities[i]
     }
 
     /// Equal entities in the same order.
@@ -90,14 +86,9 @@ impl Index {
     pub fn get(&self, n: Number) -> Option<&Entity>
         ensures { option_copied result ≡ entity_at self.now n }
     {
-        self.map.get(&n)
+        match index_of(self.places.as_slice(), n) {
+            Some(i) => Some(&self.entities[i]),
+            None => None,
+        }
     }
-}
-
-fn put(map: &mut IndexMap<Number, Entity>, entity: Entity) -> Result<(), NoMemory>
-    requires { get nat_eq map.old entity.number ≡ None }
-    ensures { OnOk result (map.new.entries ≡ map.old.entries ++ (entity.number, entity) ∷ []) }
-{
-    map.insert(entity.number, entity)?;
-    Ok(())
 }

@@ -1,4 +1,18 @@
 //! The store: the entities of a project with their references resolved.
+//!
+//! | module | what is in it | calls |
+//! |---|---|---|
+//! | store | a project's entities in file order | `Store` |
+//! | entities | entities by number, whatever holds them | `Entities` |
+//! | overlay | a store with an edit's items put | `Overlay` |
+//! | reach | what an entity uses, and what that uses in turn | `closure` |
+//! | error | why a list of entities is no project | `StoreErr` |
+//! | laws | what the least fault of a list is | `least_faults` |
+//! | index | entities in file order, found by number | |
+//! | places | where the entity of a number stands: a search, no hash | |
+//! | build | the faults of a list of entities | |
+//!
+//! Its tests stand in the crate definition_tests.
 #![tactic(auto)]
 
 mod build;
@@ -7,6 +21,7 @@ mod error;
 mod index;
 mod laws;
 mod overlay;
+mod places;
 mod reach;
 mod store;
 
@@ -16,6 +31,3 @@ pub use laws::least_faults;
 pub use overlay::Overlay;
 pub use reach::closure;
 pub use store::Store;
-
-#[cfg(test)]
-mod tests;

@@ -1,19 +1,52 @@
 //! What an entity uses, and what that uses in turn.
 
-ghost use Rattle.std.specs.Prelude.{◌≡◌, ℕ, ◌↔◌, nat_eq, IfOk, OnOk, Contains};
-ghost use Rattle.std.specs.List.{IsDistinct};
+ghost use Rattle.std.specs.Prelude.{◌≡◌, ℕ, [], ◌↔◌, IfOk, OnOk, Contains};
+ghost use Rattle.std.specs.List.Sorted.{IsStrictlyIncreasing};
 ghost use Rattle.entity_types.specs.Entity.{uses_of};
-ghost use Rattle.project_store.specs.Inserts.{insert_all, uses_at};
+ghost use Rattle.project_store.specs.Inserts.{insert_number, insert_all, AreMembers, uses_at};
 ghost use Rattle.project_store.specs.Reach.{Reaches, IsClosure};
 
 use crate::entities::Entities;
 use entity_types::Entity;
-use indexmap::IndexSet;
 use nc_base::{NoMemory, Number, NumberList};
 use std::alloc::Global;
+use std::collections::BTreeSet;
 
-fn insert_all(set: &mut IndexSet<Number>, numbers: &[Number]) -> Result<(), NoMemory>
-    ensures { OnOk result (set.new.keys ≡ insert_all set.old.keys numbers.now) }
+/// Numbers, each once: in the order in which they came, and as a tree, which says whether one is there. A tree takes no longer for
+/// any choice of numbers, as a hash with a seed that is known would.
+#[derive(Drop)]
+struct Gathered {
+    order: Vec<Number>,
+    members: BTreeSet<Number>,
+}
+
+impl Gathered {
+    fn new(alloc: Global) -> Gathered
+        ensures order { result.order.items ≡ [] }
+        ensures members { AreMembers result.order.items result.members }
+    {
+        Gathered {
+            order: Vec::new(alloc),
+            members: BTreeSet::new(alloc),
+        }
+    }
+
+    fn insert(&mut self, number: Number) -> Result<(), NoMemory>
+        requires { AreMembers self.old.order.items self.old.members }
+        ensures order { OnOk result (self.new.order.items ≡ insert_number self.old.order.items number) }
+        ensures members { OnOk result (AreMembers self.new.order.items self.new.members) }
+    {
+        if self.members.insert(number)? {
+            self.order.push(number)?;
+        }
+        Ok(())
+    }
+}
+
+fn insert_all(set: &mut Gathered, numbers: &[Number]) -> Result<(), NoMemory>
+    requires { AreMembers set.old.order.items set.old.members }
+    ensures order { OnOk result (set.new.order.items ≡ insert_all set.old.order.items numbers.now) }
+    ensures members { OnOk result (AreMembers set.new.order.items set.new.members) }
 {
     for number in numbers {
         set.insert(*number)?;
@@ -21,8 +54,10 @@ fn insert_all(set: &mut IndexSet<Number>, numbers: &[Number]) -> Result<(), NoMe
     Ok(())
 }
 
-fn insert_uses(set: &mut IndexSet<Number>, entity: &Entity) -> Result<(), NoMemory>
-    ensures { OnOk result (set.new.keys ≡ insert_all set.old.keys (uses_of entity.now)) }
+fn insert_uses(set: &mut Gathered, entity: &Entity) -> Result<(), NoMemory>
+    requires { AreMembers set.old.order.items set.old.members }
+    ensures order { OnOk result (set.new.order.items ≡ insert_all set.old.order.items (uses_of entity.now)) }
+    ensures members { OnOk result (AreMembers set.new.order.items set.new.members) }
 {
     for field in entity.fields.as_slice() {
         insert_all(set, field.references())?;
@@ -31,11 +66,13 @@ fn insert_uses(set: &mut IndexSet<Number>, entity: &Entity) -> Result<(), NoMemo
 }
 
 fn insert_used<E: Entities>(
-    set: &mut IndexSet<Number>,
+    set: &mut Gathered,
     entities: &E,
     number: Number,
 ) -> Result<(), NoMemory>
-    ensures { OnOk result (set.new.keys ≡ insert_all set.old.keys (uses_at (E.entities entities.now) number)) }
+    requires { AreMembers set.old.order.items set.old.members }
+    ensures order { OnOk result (set.new.order.items ≡ insert_all set.old.order.items (uses_at (E.entities entities.now) number)) }
+    ensures members { OnOk result (AreMembers set.new.order.items set.new.members) }
 {
     match entities.get(number) {
         Some(entity) => insert_uses(set, entity),
@@ -43,27 +80,29 @@ fn insert_used<E: Entities>(
     }
 }
 
+/// What is reached from `n`, each once.
 fn reached<E: Entities>(
     alloc: Global,
     entities: &E,
     n: Number,
-) -> Result<IndexSet<Number>, NoMemory>
-    ensures members { IfOk result (λ set. (m : ℕ) → Contains set.keys m ↔ Reaches (E.entities entities.now) n m) }
-    ensures distinct { IfOk result (λ set. IsDistinct nat_eq set.keys) }
+) -> Result<BTreeSet<Number>, NoMemory>
+    ensures { IfOk result (λ set. (m : ℕ) → Contains set.keys m ↔ Reaches (E.entities entities.now) n m) }
 {
-    let mut set = IndexSet::new(alloc);
+    let mut set = Gathered::new(alloc);
     set.insert(n)?;
     let mut next = 0;
-    while next < set.len() {
-        let number = *set.get_index(next).unwrap();
+    while next < set.order.len() {
+        let number = set.order[next];
         insert_used(&mut set, entities, number)?;
         next += 1;
     }
-    Ok(set)
+    Ok(set.members)
 }
 
-fn listed(alloc: Global, numbers: &[Number]) -> Result<NumberList, NoMemory>
-    ensures { IfOk result (λ list. list ≡ numbers.now) }
+/// The members of a set in order.
+fn listed(alloc: Global, numbers: &BTreeSet<Number>) -> Result<NumberList, NoMemory>
+    ensures list { IfOk result (λ list. list ≡ numbers.now.keys) }
+    ensures rising { IfOk result IsStrictlyIncreasing }
 {
     let mut list = NumberList::new(alloc);
     for number in numbers {
@@ -76,7 +115,6 @@ fn listed(alloc: Global, numbers: &[Number]) -> Result<NumberList, NoMemory>
 pub fn closure<E: Entities>(alloc: Global, entities: &E, n: Number) -> Result<NumberList, NoMemory>
     ensures { IfOk result (IsClosure (E.entities entities.now) n) }
 {
-    let mut set = reached(alloc, entities, n)?;
-    set.sort()?;
-    listed(alloc, set.as_slice())
+    let set = reached(alloc, entities, n)?;
+    listed(alloc, &set)
 }

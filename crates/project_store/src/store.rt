@@ -49,13 +49,14 @@ impl Store {
             return Err(fault);
         }
         let index = Index::new(alloc, entities)?;
-        if let Some((number, reference)) = least_missing(&index) {
-            return Err(StoreErr::Unresolved(number, reference));
+        // A reference that names no entity names none of the right kind either, so that one look at each is enough where all are right.
+        let Some((number, position)) = least_wrong(&index) else {
+            return Ok(Store { index });
+        };
+        match least_missing(&index) {
+            Some((entity, reference)) => Err(StoreErr::Unresolved(entity, reference)),
+            None => Err(StoreErr::WrongKind(number, position)),
         }
-        if let Some((number, position)) = least_wrong(&index) {
-            return Err(StoreErr::WrongKind(number, position));
-        }
-        Ok(Store { index })
     }
 
     /// The only `PROJECT`.
