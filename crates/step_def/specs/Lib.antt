@@ -9,3 +9,4 @@ pub mod Facts
 pub mod Sound
 pub mod DefOf
 pub mod Condition
+pub mod Agree

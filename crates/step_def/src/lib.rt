@@ -4,6 +4,7 @@
 //! | module | what is in it | calls |
 //! |---|---|---|
 //! | definition | the definition of a workingstep | `resolve`, `is_workingstep` |
+//! | laws | a definition depends only on what its workingstep reaches | `definition_is_local` |
 //! | fault | why a workingstep has none, and the order of the kinds | `DefFault` |
 //! | walk | what is looked up from a workingstep, in order | |
 //! | reference | the instances that fields refer to | |
@@ -26,6 +27,7 @@ mod face;
 mod fault;
 mod found;
 mod hole;
+mod laws;
 mod number;
 mod placement;
 mod pocket;
@@ -37,4 +39,5 @@ mod walk;
 
 pub use definition::{is_workingstep, resolve};
 pub use fault::DefFault;
+pub use laws::definition_is_local;
 pub use ranges::MAX_VALUE;
