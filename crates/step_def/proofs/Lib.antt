@@ -1,3 +1,4 @@
 pub mod Unique
 pub mod Heights
 pub mod Keeping
+pub mod Looking

@@ -5,6 +5,7 @@ use Rattle.std.specs.Int.{is_positive}
 use Rattle.std.specs.Ordering.{int_eq}
 use Rattle.step_def.specs.declared.fault.DefFault.{DefFault}
 use Rattle.step_def.specs.declared.fault.DefFault.TheVariants.{HasToolpath, BadDirection, Mismatch, NotRectangle, NotPositive, OutOfRange}
+use Rattle.step_def.specs.declared.ranges.TheConstants.{MAX_VALUE}
 use Rattle.step_def.specs.declared.found.Coordinates.{Coordinates}
 use Rattle.step_def.specs.declared.found.Figure.{Figure}
 use Rattle.step_def.specs.declared.found.Ranged.{Ranged}
@@ -155,25 +156,25 @@ all_in_range (Some x ∷ xs) = if is_in_range x then all_in_range xs else Err (O
 abbrev pub between : ℤ → ℤ → Figure → Ranged
 between least greatest x = record { number = x.number; position = x.position; value = x.value; least = least; greatest = greatest }
 
--- within 100,000,000 thousandths in size
+-- within the greatest size, upwards and downwards
 abbrev pub is_sized : ℤ → Bool
-is_sized z = int_le (negsuc 99999999) z && int_le z (pos 100000000)
+is_sized z = int_le (neg_ℤ MAX_VALUE) z && int_le z MAX_VALUE
 
 -- the same, as a range
 abbrev pub sized : Figure → Ranged
-sized x = between (negsuc 99999999) (pos 100000000) x
+sized = between (neg_ℤ MAX_VALUE) MAX_VALUE
 
--- not below 0, and at most 100,000,000
+-- not below 0, and at most the greatest size
 abbrev pub unsigned : Figure → Ranged
-unsigned x = between (pos 0) (pos 100000000) x
+unsigned = between (pos 0) MAX_VALUE
 
 -- a part of the whole, in thousandths, and less than the whole
 abbrev pub partial : Figure → Ranged
-partial x = between (pos 0) (pos 999) x
+partial = between (pos 0) (pos 999)
 
 -- not below 0, and less than the depth
 abbrev pub shallower : Walk → Figure → Ranged
-shallower walk x = between (pos 0) (depth_of walk -ℤ pos 1) x
+shallower walk = between (pos 0) (depth_of walk -ℤ pos 1)
 
 -- a coordinate of a point, which is blamed on the point's position 2
 abbrev pub coordinate : Coordinates → ℤ → Option Ranged

@@ -5,6 +5,8 @@ pub mod Faults
 pub mod Numbers
 pub mod Sides
 pub mod Ranges
+pub mod Facts
 pub mod Sound
 pub mod DefOf
 pub mod Condition
+pub mod Agree

@@ -5,6 +5,7 @@ use Rattle.std.specs.Int.{int_min, int_max}
 use Rattle.std.specs.Ordering.{int_eq}
 use Rattle.path_blocks.specs.declared.def.Shape.{Shape}
 use Rattle.path_blocks.specs.declared.def.Shape.TheVariants.{Drill, Plane, Pocket}
+use Rattle.path_blocks.specs.declared.limits.TheConstants.{MAX_BLOCKS}
 use Rattle.path_blocks.specs.Count.{block_count}
 use Rattle.path_blocks.specs.Numbers.{Numbers}
 use Rattle.path_blocks.specs.PathPocket.{Rectangle, shrunk}
@@ -115,7 +116,7 @@ numbers_with walk job shape = record {
 -- the numbers, unless the path of step n would have too many blocks
 abbrev pub few_blocks : ℕ → Numbers → Result Numbers DefFault
 few_blocks n x =
-    let count = block_count x.z0 x.bottom x.axial x.shape in if nat_le count 20000 then Ok x else Err (TooManyBlocks n count)
+    let count = block_count x.z0 x.bottom x.axial x.shape in if nat_le count MAX_BLOCKS then Ok x else Err (TooManyBlocks n count)
 
 -- the numbers of the definition of workingstep n, or its first fault; an n that is not there has no feature at its position 3
 unfoldable pub numbers_at : (ℕ → Option Entity) → ℕ → Result Numbers DefFault

@@ -4,6 +4,7 @@ use Rattle.std.specs.List.{list_all}
 use Rattle.std.specs.Int.{is_positive}
 use Rattle.path_blocks.specs.Range.{is_within, fits_shape}
 use Rattle.path_blocks.specs.declared.def.Def.{Def}
+use Rattle.path_blocks.specs.declared.limits.TheConstants.{MAX_BLOCKS}
 use Rattle.path_blocks.specs.Count.{block_count}
 use Rattle.path_blocks.specs.Numbers.{Numbers}
 
@@ -14,7 +15,7 @@ pub record KeepsRanges (x : Numbers) : Type 0 where
   pub cuts : IsTrue (is_positive x.axial)
   pub downwards : x.bottom <ℤ x.z0
   pub shaped : IsTrue (fits_shape x.shape)
-  pub few : IsTrue (nat_le (block_count x.z0 x.bottom x.axial x.shape) 20000)
+  pub few : IsTrue (nat_le (block_count x.z0 x.bottom x.axial x.shape) MAX_BLOCKS)
 
 -- the definition with these numbers
 abbrev pub def_with : (x : Numbers) → KeepsRanges x → Def

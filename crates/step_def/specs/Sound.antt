@@ -1,4 +1,5 @@
--- What a walk without a fault comes down to keeps the ranges of a definition.
+-- What a walk without a fault comes down to keeps the ranges of a definition. A definition's type keeps the proof of that, so the
+-- definition of a workingstep needs it: it stands here, below that definition, and not among the proofs.
 use Rattle.std.specs.Prelude.{◌≡◌, ℕ, ℤ, pos, negsuc, neg_ℤ, ◌+◌, ◌-◌, ◌*◌, ◌/◌, ◌≤◌, max, ◌+ℤ◌, ◌-ℤ◌, ◌<ℤ◌, int_lt, int_le, nat_le, unsigned_abs, Bool, true, false, cond, not, ◌&&◌, ◌||◌, if◌then◌else◌, IfSome, IsTrue, List, [], ◌∷◌, Option, Some, None, option_map, Result, Ok, Err, refl, ⊤}
 use Rattle.std.specs.Option.{option_map_or}
 use Rattle.std.specs.List.{list_all}
@@ -39,6 +40,9 @@ use Rattle.step_def.specs.Faults.{all_positive, all_in_range, area_of, area_posi
 use Rattle.step_def.specs.Walk.{found, walk_of}
 use Rattle.step_def.specs.Numbers.{or_else, allowance_of, axial_of, few_blocks, has_room, inset_of, inset_rectangle, numbers_at, numbers_with, pocket_in, radial_of, rectangle_of, retract_height, shape_of, sign_of, step_of}
 use Rattle.step_def.specs.Ranges.{KeepsRanges}
+use Rattle.step_def.specs.Facts.{AreaFacts, CornersFacts, FaceFacts, Facts, IfBetween, IfPositive, JobFacts, PlaceFacts, PocketFacts, RectangleWithin, SidesFacts}
+use Rattle.path_blocks.specs.declared.limits.TheConstants.{MAX_BLOCKS}
+use Rattle.step_def.specs.declared.ranges.TheConstants.{MAX_VALUE}
 
 -- ---- rows of look-ups
 
@@ -83,79 +87,9 @@ each_in_range (Some x ∷ xs) e =
     let h = test_ok (is_in_range x) (all_in_range xs) (OutOfRange x.number x.position) tt e in
     (h.0, each_in_range xs h.1)
 
--- a number that is there is between these ends
-abbrev pub IfBetween : ℤ → ℤ → Option Figure → Type 0
-IfBetween least greatest x = IfSome x (λ f. IsTrue (int_le least f.value && int_le f.value greatest))
-
 if_between : (least greatest : ℤ) (x : Option Figure) → IfSome (option_map (between least greatest) x) (λ f. IsTrue (is_in_range f)) → IfBetween least greatest x
 if_between least greatest None h = tt
 if_between least greatest (Some f) h = h
-
--- a number that is there is above 0
-abbrev pub IfPositive : Option Figure → Type 0
-IfPositive x = IfSome x (λ f. IsTrue (is_positive f.value))
-
--- what is known of every walk
-pub record PlaceFacts (walk : Walk) : Type 0 where
-  pub sec : IsTrue (is_sized walk.security.point.z)
-  pub x : IsTrue (is_sized walk.placement.point.x)
-  pub y : IsTrue (is_sized walk.placement.point.y)
-  pub z : IsTrue (is_sized walk.placement.point.z)
-  pub floor : IsTrue (is_sized walk.floor.point.z)
-  pub deep : IsTrue (is_positive (depth_of walk))
-  pub retract : IfBetween (pos 0) (pos 100000000) walk.cut.retract
-  pub feed : IsTrue (is_sized walk.cut.feed.value)
-  pub feeds : IsTrue (is_positive walk.cut.feed.value)
-  pub spindle : IsTrue (is_sized walk.cut.spindle.value)
-
--- what is known of a face
-pub record FaceFacts (walk : Walk) (face : FacePart) (cut : FaceCut) : Type 0 where
-  pub straight : IsTrue (is_straight face.course)
-  pub length : IsTrue (is_sized face.length.value)
-  pub long : IsTrue (is_positive face.length.value)
-  pub width : IsTrue (is_sized face.width.value)
-  pub wide : IsTrue (is_positive face.width.value)
-  pub diameter : IsTrue (is_sized cut.diameter.value)
-  pub thick : IsTrue (is_positive cut.diameter.value)
-  pub overlap : IfBetween (pos 0) (pos 999) cut.strategy.overlap
-  pub axial : IfBetween (negsuc 99999999) (pos 100000000) cut.axial
-  pub cuts : IfPositive cut.axial
-  pub bottom : IfBetween (pos 0) (depth_of walk -ℤ pos 1) cut.bottom
-
--- what is known of the rectangle of a pocket
-pub record SidesFacts (length width : Figure) : Type 0 where
-  pub length_sized : IsTrue (is_sized length.value)
-  pub long : IsTrue (is_positive length.value)
-  pub width_sized : IsTrue (is_sized width.value)
-  pub wide : IsTrue (is_positive width.value)
-
-pub record CornersFacts (p : CornerPoints) : Type 0 where
-  pub first_x : IsTrue (is_sized p.first.x)
-  pub first_y : IsTrue (is_sized p.first.y)
-  pub third_x : IsTrue (is_sized p.third.x)
-  pub third_y : IsTrue (is_sized p.third.y)
-
-abbrev pub AreaFacts : Area → Type 0
-AreaFacts (Centred length width) = SidesFacts length width
-AreaFacts (Cornered points) = CornersFacts points
-
--- what is known of a pocket
-pub record PocketFacts (walk : Walk) (area : Area) (cut : PocketCut) : Type 0 where
-  pub area_facts : AreaFacts area
-  pub diameter : IsTrue (is_sized cut.diameter.value)
-  pub thick : IsTrue (is_positive cut.diameter.value)
-  pub axial : IfBetween (negsuc 99999999) (pos 100000000) cut.axial
-  pub cuts : IfPositive cut.axial
-  pub radial : IfBetween (negsuc 99999999) (pos 100000000) cut.radial
-  pub apart : IfPositive cut.radial
-  pub side : IfBetween (pos 0) (pos 100000000) cut.side
-  pub bottom : IfBetween (pos 0) (depth_of walk -ℤ pos 1) cut.bottom
-
--- what is known of a job
-abbrev pub JobFacts : Walk → Job → Type 0
-JobFacts walk (DrillHole diameter dwell) = IfBetween (pos 0) (pos 100000000) dwell
-JobFacts walk (MillFace face cut) = FaceFacts walk face cut
-JobFacts walk (MillPocket area cut) = PocketFacts walk area cut
 
 -- the course of a face that is made is straight
 abbrev Straight : Job → Type 0
@@ -192,7 +126,7 @@ area_facts_of (Centred length width) p r = record { length_sized = r.0; long = p
 area_facts_of (Cornered points) p r = record { first_x = r.0; first_y = r.1.0; third_x = r.1.1.1.1.0; third_y = r.1.1.1.1.1.0 }
 
 job_facts_of : (walk : Walk) (job : Job) → Straight job → ArePositive (feature_positives job) → ArePositive (operation_positives job) → AreInRange (feature_ranges job) → AreInRange (operation_ranges walk job) → JobFacts walk job
-job_facts_of walk (DrillHole diameter dwell) s p q r t = if_between (pos 0) (pos 100000000) dwell t.0
+job_facts_of walk (DrillHole diameter dwell) s p q r t = if_between (pos 0) MAX_VALUE dwell t.0
 job_facts_of walk (MillFace face cut) s p q r t = record {
   straight = s;
   length = r.0;
@@ -202,7 +136,7 @@ job_facts_of walk (MillFace face cut) s p q r t = record {
   diameter = t.0;
   thick = q.0;
   overlap = if_between (pos 0) (pos 999) cut.strategy.overlap t.1.0;
-  axial = if_between (negsuc 99999999) (pos 100000000) cut.axial t.1.1.0;
+  axial = if_between (neg_ℤ MAX_VALUE) MAX_VALUE cut.axial t.1.1.0;
   cuts = q.1.0;
   bottom = if_between (pos 0) (depth_of walk -ℤ pos 1) cut.bottom t.1.1.1.0;
 }
@@ -210,18 +144,13 @@ job_facts_of walk (MillPocket area cut) s p q r t = record {
   area_facts = area_facts_of area p r;
   diameter = t.0;
   thick = q.0;
-  axial = if_between (negsuc 99999999) (pos 100000000) cut.axial t.1.0;
+  axial = if_between (neg_ℤ MAX_VALUE) MAX_VALUE cut.axial t.1.0;
   cuts = q.1.0;
-  radial = if_between (negsuc 99999999) (pos 100000000) cut.radial t.1.1.0;
+  radial = if_between (neg_ℤ MAX_VALUE) MAX_VALUE cut.radial t.1.1.0;
   apart = q.1.1.0;
-  side = if_between (pos 0) (pos 100000000) cut.side t.1.1.1.0;
+  side = if_between (pos 0) MAX_VALUE cut.side t.1.1.1.0;
   bottom = if_between (pos 0) (depth_of walk -ℤ pos 1) cut.bottom t.1.1.1.1.0;
 }
-
--- what is known where nothing was refused
-pub record Facts (walk : Walk) (job : Job) : Type 0 where
-  pub place : PlaceFacts walk
-  pub made : JobFacts walk job
 
 positive_facts : (walk : Walk) (job : Job) → positives_check walk job ≡ Ok tt
     → IsTrue (is_positive (depth_of walk)) × ArePositive (feature_positives job) × IsTrue (is_positive walk.cut.feed.value) × ArePositive (operation_positives job)
@@ -271,7 +200,7 @@ facts_of walk found_job e =
         z = r.0.1.1.1.0;
         floor = r.0.1.1.1.1.0;
         deep = p.0;
-        retract = if_between (pos 0) (pos 100000000) walk.cut.retract r.2.0;
+        retract = if_between (pos 0) MAX_VALUE walk.cut.retract r.2.0;
         feed = r.2.1.0;
         feeds = p.2;
         spindle = r.2.1.1.0;
@@ -287,7 +216,7 @@ both a b p q = rw (p, q) refl
 within_sized : (x : ℤ) → IsTrue (is_sized x) → IsTrue (is_within x)
 within_sized x h = grind (arith, ints)
 
-within_retract : (z0 sec : ℤ) (retract : Option Figure) → IsTrue (is_sized z0) → IsTrue (is_sized sec) → IfBetween (pos 0) (pos 100000000) retract
+within_retract : (z0 sec : ℤ) (retract : Option Figure) → IsTrue (is_sized z0) → IsTrue (is_sized sec) → IfBetween (pos 0) MAX_VALUE retract
     → IsTrue (is_within (option_map_or (λ (f : Figure). z0 +ℤ f.value) retract sec))
 within_retract z0 sec None p q r = within_sized sec q
 within_retract z0 sec (Some f) p q r = grind (arith, ints)
@@ -314,7 +243,7 @@ bottom_below z0 floor a t = grind (arith, ints)
 depth_within : (floor : ℤ) → IsTrue (is_sized floor) → IsTrue (is_within (neg_ℤ floor))
 depth_within floor h = grind (arith, ints)
 
-or_depth_within : (floor : ℤ) (x : Option Figure) → IsTrue (is_sized floor) → IfBetween (negsuc 99999999) (pos 100000000) x → IsTrue (is_within (or_else (neg_ℤ floor) x))
+or_depth_within : (floor : ℤ) (x : Option Figure) → IsTrue (is_sized floor) → IfBetween (neg_ℤ MAX_VALUE) MAX_VALUE x → IsTrue (is_within (or_else (neg_ℤ floor) x))
 or_depth_within floor None h r = depth_within floor h
 or_depth_within floor (Some f) h r = within_sized f.value r
 
@@ -334,15 +263,15 @@ axial_positive walk (MillPocket area cut) h made = or_depth_positive (depth_of w
 
 -- ---- the shapes
 
-dwell_within : (dwell : Option Figure) → IfBetween (pos 0) (pos 100000000) dwell → IsTrue (is_within (or_else (pos 0) dwell))
+dwell_within : (dwell : Option Figure) → IfBetween (pos 0) MAX_VALUE dwell → IsTrue (is_within (or_else (pos 0) dwell))
 dwell_within None h = refl
 dwell_within (Some f) h = grind (arith, ints)
 
-dwell_at_least_zero : (dwell : Option Figure) → IfBetween (pos 0) (pos 100000000) dwell → IsTrue (is_at_least_zero (or_else (pos 0) dwell))
+dwell_at_least_zero : (dwell : Option Figure) → IfBetween (pos 0) MAX_VALUE dwell → IsTrue (is_at_least_zero (or_else (pos 0) dwell))
 dwell_at_least_zero None h = refl
 dwell_at_least_zero (Some f) h = grind (arith, ints)
 
-drill_shaped : (walk : Walk) (dwell : Option Figure) → PlaceFacts walk → IfBetween (pos 0) (pos 100000000) dwell → IsTrue (fits_shape (Drill walk.placement.point.x walk.placement.point.y (or_else (pos 0) dwell)))
+drill_shaped : (walk : Walk) (dwell : Option Figure) → PlaceFacts walk → IfBetween (pos 0) MAX_VALUE dwell → IsTrue (fits_shape (Drill walk.placement.point.x walk.placement.point.y (or_else (pos 0) dwell)))
 drill_shaped walk dwell place made =
     both _ _ (both _ _ (within_sized walk.placement.point.x place.x) (both _ _ (within_sized walk.placement.point.y place.y) (both _ _ (dwell_within dwell made) refl))) (dwell_at_least_zero dwell made)
 
@@ -392,13 +321,6 @@ face_shaped walk face cut place made =
 
 -- ---- pockets
 
--- a rectangle's sides are within the range of a definition
-pub record RectangleWithin (r : Rectangle) : Type 0 where
-  pub left : IsTrue (is_within r.left)
-  pub low : IsTrue (is_within r.low)
-  pub right : IsTrue (is_within r.right)
-  pub high : IsTrue (is_within r.high)
-
 half_before : (x length : ℤ) → IsTrue (is_sized x) → IsTrue (is_sized length) → IsTrue (is_within (x -ℤ pos (unsigned_abs length / 2)))
 half_before x length h k = grind (arith, ints)
 
@@ -444,7 +366,7 @@ radial_default d h = grind (arith, ints)
 radial_above : (d : ℕ) → IsTrue (is_positive (pos (max (d / 2) 1)))
 radial_above d = step_positive (max (d / 2) 1) (omega arith)
 
-or_radial_within : (d : ℕ) (x : Option Figure) → d ≤ 100000000 → IfBetween (negsuc 99999999) (pos 100000000) x → IsTrue (is_within (or_else (pos (max (d / 2) 1)) x))
+or_radial_within : (d : ℕ) (x : Option Figure) → d ≤ 100000000 → IfBetween (neg_ℤ MAX_VALUE) MAX_VALUE x → IsTrue (is_within (or_else (pos (max (d / 2) 1)) x))
 or_radial_within d None h r = radial_default d h
 or_radial_within d (Some f) h r = within_sized f.value r
 
@@ -495,7 +417,7 @@ axial_up walk job facts = axial_positive walk job facts.place.deep facts.made
 
 -- the numbers of a job keep the ranges, where their path has few enough blocks
 pub keeps : (walk : Walk) (job : Job) (shape : Shape) → Facts walk job → shape_of walk job ≡ Ok shape
-    → IsTrue (nat_le (block_count walk.placement.point.z (walk.placement.point.z -ℤ depth_of walk +ℤ allowance_of job) (axial_of walk job) shape) 20000) → KeepsRanges (numbers_with walk job shape)
+    → IsTrue (nat_le (block_count walk.placement.point.z (walk.placement.point.z -ℤ depth_of walk +ℤ allowance_of job) (axial_of walk job) shape) MAX_BLOCKS) → KeepsRanges (numbers_with walk job shape)
 keeps walk job shape facts e few =
     let place = facts.place in
     let left = allowance_fits walk job place.deep facts.made in
@@ -521,5 +443,5 @@ keeps_ranges from n x e =
     let shape = bind_ok (shape_of walk.0 job.0) _ x job.2 in
     let numbers : Numbers = numbers_with walk.0 job.0 shape.0 in
     let count : ℕ = block_count numbers.z0 numbers.bottom numbers.axial numbers.shape in
-    let few = test_ok (nat_le count 20000) (Ok numbers) (TooManyBlocks n count) x shape.2 in
+    let few = test_ok (nat_le count MAX_BLOCKS) (Ok numbers) (TooManyBlocks n count) x shape.2 in
     subst KeepsRanges (ok_is numbers x few.1) (keeps walk.0 job.0 shape.0 (facts_of walk.0 job.0 job.1) shape.1 few.0)

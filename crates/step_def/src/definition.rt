@@ -1,26 +1,25 @@
 //! The definition of a workingstep.
 
-ghost use Rattle.std.specs.Prelude.{◌≡◌, ℤ, ◌+◌, ◌/◌, ◌≤◌, unsigned_abs, pos, ◌+ℤ◌, ◌-ℤ◌, IsTrue, Ok};
-ghost use Rattle.std.specs.Int.{int_max, int_min, is_positive};
+ghost use Rattle.std.specs.Prelude.{◌≡◌, ◌+◌, ◌≤◌, pos, ◌+ℤ◌, ◌-ℤ◌, IsTrue, Ok};
 ghost use Rattle.path_blocks.specs.Numbers.{numbers_of};
-ghost use Rattle.path_blocks.specs.PathPocket.{shrunk};
-ghost use Rattle.path_blocks.specs.Range.{is_within};
+ghost use Rattle.path_blocks.specs.declared.limits.TheConstants.{MAX_SIZE};
+ghost use Rattle.step_def.specs.declared.ranges.TheConstants.{MAX_VALUE};
 ghost use Rattle.step_def.specs.Steps.{Gives};
 ghost use Rattle.step_def.specs.Faults.{depth_of, is_sized, job_of};
-ghost use Rattle.step_def.specs.Numbers.{allowance_of, axial_of, few_blocks, has_room, inset_of, numbers_at, numbers_with, or_else, pocket_in, radial_of, rectangle_of, retract_height, shape_of, sign_of, step_of};
-ghost use Rattle.step_def.specs.Sides.{rectangle_with};
-ghost use Rattle.step_def.specs.Sound.{AreaFacts, CornersFacts, Facts, IfBetween, PlaceFacts, PocketFacts, RectangleWithin, SidesFacts};
+ghost use Rattle.step_def.specs.Numbers.{allowance_of, axial_of, few_blocks, inset_of, numbers_at, numbers_with, or_else, radial_of, retract_height, shape_of, sign_of, step_of};
+ghost use Rattle.step_def.specs.Facts.{Facts, IfBetween, PlaceFacts, PocketFacts};
 ghost use Rattle.step_def.specs.Condition.{is_workingstep};
 ghost use Rattle.step_def.specs.DefOf.{def_of};
 
 use crate::check::job_of;
 use crate::fault::DefFault;
-use crate::found::{Area, CornerPoints, FaceCut, Figure, Job, PocketCut, Sides, Walk};
+use crate::found::{Area, FaceCut, Figure, Job, PocketCut, Walk};
+use crate::rectangle::{has_room, rectangle_of, shrunk};
 use crate::reference::is_of;
 use crate::walk::walk_of;
 use entity_types::Class;
 use nc_base::{Number, Steps};
-use path_blocks::{Def, Shape, block_count};
+use path_blocks::{Def, MAX_BLOCKS, Shape, block_count};
 use project_store::Entities;
 use std::sync::ledger::Ledger;
 
@@ -114,120 +113,11 @@ fn radial_of(cut: &PocketCut) -> i64
 /// How far the middle of the tool stays from the sides.
 fn inset_of(cut: &PocketCut) -> u64
     requires diameter { IsTrue (is_sized cut.now.diameter.value) }
-    requires side { IfBetween (pos 0) (pos 100000000) cut.now.side }
+    requires side { IfBetween (pos 0) MAX_VALUE cut.now.side }
     ensures exact { result ≡ inset_of cut.now }
-    ensures short { result ≤ 200000000 }
+    ensures short { result ≤ MAX_SIZE }
 {
     (cut.diameter.value.unsigned_abs() + 1) / 2 + value_or(0, &cut.side).unsigned_abs()
-}
-
-/// Where a side of this length begins, which is centred on a place.
-fn centred_from(at: &i64, length: &Figure) -> i64
-    requires at { IsTrue (is_sized at.now) }
-    requires length { IsTrue (is_sized length.now.value) }
-    ensures exact { result ≡ at.now -ℤ pos (unsigned_abs length.now.value / 2) }
-    ensures within { IsTrue (is_within result) }
-{
-    *at - (length.value.unsigned_abs() / 2) as i64
-}
-
-/// Where it ends.
-fn centred_to(at: &i64, length: &Figure) -> i64
-    requires at { IsTrue (is_sized at.now) }
-    requires length { IsTrue (is_sized length.now.value) }
-    requires long { IsTrue (is_positive length.now.value) }
-    ensures exact { result ≡ at.now -ℤ pos (unsigned_abs length.now.value / 2) +ℤ length.now.value }
-    ensures within { IsTrue (is_within result) }
-{
-    centred_from(at, length) + length.value
-}
-
-/// The lesser of two coordinates, from a place.
-fn lesser_from(at: &i64, a: &i64, b: &i64) -> i64
-    requires at { IsTrue (is_sized at.now) }
-    requires a { IsTrue (is_sized a.now) }
-    requires b { IsTrue (is_sized b.now) }
-    ensures exact { result ≡ at.now +ℤ int_min a.now b.now }
-    ensures within { IsTrue (is_within result) }
-{
-    if *b < *a { *at + *b } else { *at + *a }
-}
-
-/// The greater of two coordinates, from a place.
-fn greater_from(at: &i64, a: &i64, b: &i64) -> i64
-    requires at { IsTrue (is_sized at.now) }
-    requires a { IsTrue (is_sized a.now) }
-    requires b { IsTrue (is_sized b.now) }
-    ensures exact { result ≡ at.now +ℤ int_max a.now b.now }
-    ensures within { IsTrue (is_within result) }
-{
-    if *b < *a { *at + *a } else { *at + *b }
-}
-
-/// The rectangle with sides of these lengths that is centred on the placement.
-fn centred(walk: &Walk, length: &Figure, width: &Figure) -> Sides
-    requires place { PlaceFacts walk.now }
-    requires sides { SidesFacts length.now width.now }
-    ensures exact { rectangle_with result ≡ rectangle_of walk.now (Area.Centred length.now width.now) }
-    ensures within { RectangleWithin (rectangle_with result) }
-{
-    let at = &walk.placement.point;
-    Sides {
-        left: centred_from(&at.x, length),
-        low: centred_from(&at.y, width),
-        right: centred_to(&at.x, length),
-        high: centred_to(&at.y, width),
-    }
-}
-
-/// The rectangle whose corners these are, from the placement.
-fn cornered(walk: &Walk, p: &CornerPoints) -> Sides
-    requires place { PlaceFacts walk.now }
-    requires corners { CornersFacts p.now }
-    ensures exact { rectangle_with result ≡ rectangle_of walk.now (Area.Cornered p.now) }
-    ensures within { RectangleWithin (rectangle_with result) }
-{
-    let at = &walk.placement.point;
-    Sides {
-        left: lesser_from(&at.x, &p.first.x, &p.third.x),
-        low: lesser_from(&at.y, &p.first.y, &p.third.y),
-        right: greater_from(&at.x, &p.first.x, &p.third.x),
-        high: greater_from(&at.y, &p.first.y, &p.third.y),
-    }
-}
-
-/// The rectangle of a pocket.
-fn rectangle_of(walk: &Walk, area: &Area) -> Sides
-    requires place { PlaceFacts walk.now }
-    requires area { AreaFacts area.now }
-    ensures exact { rectangle_with result ≡ rectangle_of walk.now area.now }
-    ensures within { RectangleWithin (rectangle_with result) }
-{
-    match area {
-        Area::Centred { length, width } => centred(walk, length, width),
-        Area::Cornered(p) => cornered(walk, p),
-    }
-}
-
-/// The rectangle shrunk by so much on each side.
-fn shrunk(sides: &Sides, by: u64) -> Sides
-    requires within { RectangleWithin (rectangle_with sides.now) }
-    requires by { by ≤ 200000000 }
-    ensures { rectangle_with result ≡ shrunk (rectangle_with sides.now) by }
-{
-    let by = by as i64;
-    Sides {
-        left: sides.left + by,
-        low: sides.low + by,
-        right: sides.right - by,
-        high: sides.high - by,
-    }
-}
-
-fn has_room(sides: &Sides) -> bool
-    ensures { result ≡ has_room (rectangle_with sides.now) }
-{
-    sides.left <= sides.right && sides.low <= sides.high
 }
 
 /// The pocket that the middle of the tool keeps within.
@@ -285,7 +175,7 @@ fn def_with(n: Number, walk: &Walk, job: &Job, shape: &Shape) -> Result<Def, Def
     let bottom = bottom_of(walk, job);
     let axial = axial_of(walk, job);
     let count = block_count(z0, bottom, axial, shape);
-    if count > 20_000 {
+    if count > MAX_BLOCKS {
         return Err(DefFault::TooManyBlocks(n, count));
     }
     Ok(Def {

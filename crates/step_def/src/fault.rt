@@ -34,7 +34,7 @@ pub enum DefFault {
     /// The tool doesn't fit into the feature.
     #[error("tool #{0} is too big")]
     ToolTooBig(Number),
-    /// The path of the workingstep would have so many blocks, more than 20,000.
+    /// The path of the workingstep would have so many blocks, more than `path_blocks::MAX_BLOCKS`.
     #[error("the path of #{0} would have {1} blocks")]
     TooManyBlocks(Number, u64),
 }

@@ -2,7 +2,7 @@
 
 ghost use Rattle.std.specs.Prelude.{◌≡◌};
 ghost use Rattle.entity_types.specs.Entity.{field_of};
-ghost use Rattle.step_def.specs.Walk.{coordinates_at, free, placement_at, plane_at};
+ghost use Rattle.step_def.specs.Walk.{coordinates_at, coordinates_in, free, placement_at, plane_at};
 
 use crate::fault::DefFault;
 use crate::found::{Coordinates, Placement};
@@ -10,6 +10,21 @@ use crate::reference::{class_at, is_absent};
 use entity_types::{Class, Entity, Field};
 use nc_base::Number;
 use project_store::Entities;
+
+/// The coordinates that a point or a direction holds.
+pub(crate) fn coordinates_in(number: Number, entity: &Entity) -> Option<Coordinates>
+    ensures { result ≡ coordinates_in number (field_of entity.now 2) }
+{
+    match entity.field(2) {
+        Some(Field::Values { x, y, z, .. }) => Some(Coordinates {
+            number,
+            x: *x,
+            y: *y,
+            z: *z,
+        }),
+        _ => None,
+    }
+}
 
 /// The coordinates of the point or the direction that a position refers to.
 #[tactic(auto, unfolding(crate::specs::Walk::coordinates_at))]
@@ -23,14 +38,9 @@ pub(crate) fn coordinates_at<E: Entities>(
     ensures { result ≡ coordinates_at (E.entities from.now) n entity.now position class }
 {
     let (number, entity) = class_at(from, n, entity, position, class)?;
-    match entity.field(2) {
-        Some(Field::Values { x, y, z, .. }) => Ok(Coordinates {
-            number,
-            x: *x,
-            y: *y,
-            z: *z,
-        }),
-        _ => Err(DefFault::Missing(number, 2)),
+    match coordinates_in(number, entity) {
+        Some(coordinates) => Ok(coordinates),
+        None => Err(DefFault::Missing(number, 2)),
     }
 }
 

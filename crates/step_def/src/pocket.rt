@@ -6,6 +6,7 @@ ghost use Rattle.step_def.specs.Walk.{corner_at, corners_at, points_alone, five_
 use crate::fault::DefFault;
 use crate::found::{Coordinates, CornerPoints, FeaturePart, OperationPart, Outline, PocketCut};
 use crate::number::{free_length_at, length_at};
+use crate::placement::coordinates_in;
 use crate::reference::{instance_at, is_of};
 use crate::tool::diameter_at;
 use entity_types::{Class, Entity, Field};
@@ -18,15 +19,12 @@ fn corner_at<E: Entities>(from: &E, n: Number, number: Number) -> Result<Coordin
     ensures { result ≡ corner_at (E.entities from.now) n number }
 {
     match from.get(number) {
-        Some(point) if is_of(Class::CartesianPoint, point) => match point.field(2) {
-            Some(Field::Values { x, y, z, .. }) => Ok(Coordinates {
-                number,
-                x: *x,
-                y: *y,
-                z: *z,
-            }),
-            _ => Err(DefFault::Missing(n, 2)),
-        },
+        Some(point) if is_of(Class::CartesianPoint, point) => {
+            match coordinates_in(number, point) {
+                Some(corner) => Ok(corner),
+                None => Err(DefFault::Missing(n, 2)),
+            }
+        }
         _ => Err(DefFault::Missing(n, 2)),
     }
 }

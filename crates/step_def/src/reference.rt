@@ -19,7 +19,10 @@ pub(crate) fn referred<'a, E: Entities>(
     ensures { option_map (λ x. (x.0, x.1.now)) result ≡ referred (E.entities from.now) (field_of entity.now position) }
 {
     match entity.field(position) {
-        Some(Field::Ref(number)) => Some((*number, from.get(*number)?)),
+        Some(Field::Ref(number)) => match from.get(*number) {
+            Some(target) => Some((*number, target)),
+            None => None,
+        },
         _ => None,
     }
 }

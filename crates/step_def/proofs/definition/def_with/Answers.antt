@@ -10,7 +10,7 @@ use Rattle.step_def.specs.declared.fault.DefFault.{DefFault}
 use Rattle.step_def.specs.declared.fault.DefFault.TheVariants.{TooManyBlocks}
 use Rattle.step_def.specs.Numbers.{few_blocks, numbers_with}
 use Rattle.step_def.specs.Ranges.{KeepsRanges}
-use Rattle.step_def.specs.Sound.{facts_of, Facts, axial_up, bottom_in, bottom_under, keeps, shaped, z_in}
+use Rattle.step_def.specs.Sound.{facts_of, axial_up, bottom_in, bottom_under, keeps, shaped, z_in}
 use Rattle.step_def.proofs.Keeping.{within_same, feeds_same, cuts_same, downwards_same, shaped_same, few_same}
 use Rattle.step_def.proofs.definition.def_with.Goals as goal
 use Rattle.step_def.proofs.definition.def_with.Goals.{After-axial_of-axial, After-block_count-count}
@@ -92,10 +92,10 @@ counted c =
     count_same (numbers_with c.args.walk.now c.args.job.now c.args.shape.now) c.block_count-count.result _ _ _ c.block_count-count.ensures.count
     (back c.args.walk.now.placement.point.z z0) (back c.bottom_of-bottom.result bottom ∙ c.bottom_of-bottom.ensures) (back c.axial_of-axial.result axial ∙ c.axial_of-axial.ensures)
 
-pub returns-then-count-gt20000 : goal.returns-then-count-gt20000
-returns-then-count-gt20000 c =
+pub returns-then-count-gt-MAX_BLOCKS : goal.returns-then-count-gt-MAX_BLOCKS
+returns-then-count-gt-MAX_BLOCKS c =
     let x : Numbers = numbers_with c.args.walk.now c.args.job.now c.args.shape.now in
-    too_many c.args.n (count_of x) c.block_count-count.result x (counted (goal.at.returns-then-count-gt20000 c).After-block_count-count) c.if-count-gt20000.true
+    too_many c.args.n (count_of x) c.block_count-count.result x (counted (goal.at.returns-then-count-gt-MAX_BLOCKS c).After-block_count-count) c.if-count-gt-MAX_BLOCKS.true
 
 pub invariant_of-result : goal.invariant_of-result
 invariant_of-result c =
@@ -107,7 +107,7 @@ invariant_of-result c =
     let bottom : FitsSigned w64 c.bottom_of-bottom.result = search rules in
     let axial : FitsSigned w64 c.axial_of-axial.result = search rules in
     let x : Numbers = numbers_with c.args.walk.now c.args.job.now c.args.shape.now in
-    let few : nat_le (count_of x) 20000 ≡ true = subst (λ (n : ℕ). nat_le n 20000 ≡ true) (counted (goal.at.invariant_of-result c).After-block_count-count) (is_le c.block_count-count.result c.if-count-gt20000.false) in
+    let few : nat_le (count_of x) 20000 ≡ true = subst (λ (n : ℕ). nat_le n 20000 ≡ true) (counted (goal.at.invariant_of-result c).After-block_count-count) (is_le c.block_count-count.result c.if-count-gt-MAX_BLOCKS.false) in
     let all : KeepsRanges x = keeps c.args.walk.now c.args.job.now c.args.shape.now (facts_of c.args.walk.now c.args.job.now c.requires.job) c.requires.shape few in
     record {
       within = within_same x all _ _ _ _ _ _ _ (back _ spindle) (back _ feed) (back _ sec) (back _ ret ∙ c.retract_height.ensures) (back _ z0) (back _ bottom ∙ c.bottom_of-bottom.ensures) (back _ axial ∙ c.axial_of-axial.ensures);

@@ -2,15 +2,16 @@ ghost use Rattle.std.specs.Prelude.{◌≡◌, ◌&&◌, true, IsTrue, nat_eq, i
 ghost use Rattle.entity_types.specs.Fits.{all_fit, are_coordinates, field_fits, fields_fit, in_range, is_flag, is_zero_past, kind_fits};
 ghost use Rattle.project_store.specs.Entities.{entity_at};
 
-use super::*;
 use entity_types::{Class, Entity, Field, FieldList, Kind, UsedPosition, used};
 use nc_base::{NoMemory, Number, NumberList, Steps};
 use path_blocks::{Def, Shape};
 use project_store::Entities;
 use std::alloc::Global;
 use std::marker::Brand;
+use std::process::Abort;
 use std::sync::ledger::{Blank, Ledger};
 use std::test::Fail;
+use step_def::{DefFault, is_workingstep, resolve};
 
 /// What a table puts at a used position.
 #[derive(Clone, Copy)]
@@ -251,24 +252,35 @@ fn answers<L: Ledger>(
     Ok(answers)
 }
 
-/// The first row of the table whose answer is another than it says, with that answer.
-fn first_wrong(
-    alloc: Global,
-    rows: &[Row],
-) -> Result<Option<(usize, Option<Result<Def, DefFault>>)>, Fail> {
+/// All instances of the project.
+fn project(alloc: Global) -> Result<Vec<Entity>, Fail> {
     let mut project = Vec::new(alloc);
     for instances in PROJECT {
         for instance in instances {
             project.push(entity(alloc, instance)?)?;
         }
     }
-    let answers = answers::<Brand>(alloc, Blank::new(1), &project, rows)?;
+    Ok(project)
+}
+
+fn expect_answer(
+    rt: &impl Abort,
+    index: usize,
+    answer: Option<Result<Def, DefFault>>,
+    want: Option<Result<Def, DefFault>>,
+) {
+    assert_eq!(rt; answer, want, "row {index}");
+}
+
+/// Stops unless each row's number is a workingstep with the row's answer, or none of them is a workingstep.
+fn expect_rows(rt: &impl Abort, alloc: Global, rows: &[Row], are_steps: bool) -> Result<(), Fail> {
+    let answers = answers::<Brand>(alloc, Blank::new(1), &project(alloc)?, rows)?;
+    assert_eq!(rt; answers.len(), rows.len());
     for (index, (row, answer)) in rows.iter().zip(&answers).enumerate() {
-        if *answer != Some(row.2) {
-            return Ok(Some((index, *answer)));
-        }
+        let want = if are_steps { Some(row.2) } else { None };
+        expect_answer(rt, index, *answer, want);
     }
-    Ok(None)
+    Ok(())
 }
 
 #[test]

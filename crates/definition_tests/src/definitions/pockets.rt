@@ -140,12 +140,10 @@ const FOUND: [Row; 12] = [
 
 #[test]
 fn faults_of_pockets(rt: HostRuntime) -> Result<(), Fail> {
-    assert_eq!(rt; first_wrong(rt.alloc(), &FAULTS)?, None);
-    Ok(())
+    expect_rows(&rt, rt.alloc(), &FAULTS, true)
 }
 
 #[test]
 fn definitions_of_pockets(rt: HostRuntime) -> Result<(), Fail> {
-    assert_eq!(rt; first_wrong(rt.alloc(), &FOUND)?, None);
-    Ok(())
+    expect_rows(&rt, rt.alloc(), &FOUND, true)
 }

@@ -1,4 +1,4 @@
-use Rattle.step_def.proofs.tests.first_wrong.Given as goal
+use Rattle.definition_tests.proofs.definitions.expect_rows.Given as goal
 
 abbrev pub ghosts-answers : goal.ghosts-answers
 ghosts-answers a = record { name = a.blank.name; parts = a.blank.parts }

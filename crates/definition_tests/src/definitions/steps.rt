@@ -75,21 +75,19 @@ const FOUND: [Row; 10] = [
 
 #[test]
 fn faults_of_steps(rt: HostRuntime) -> Result<(), Fail> {
-    assert_eq!(rt; first_wrong(rt.alloc(), &FAULTS)?, None);
-    Ok(())
+    expect_rows(&rt, rt.alloc(), &FAULTS, true)
 }
 
 #[test]
 fn definitions_of_steps(rt: HostRuntime) -> Result<(), Fail> {
-    assert_eq!(rt; first_wrong(rt.alloc(), &FOUND)?, None);
-    Ok(())
+    expect_rows(&rt, rt.alloc(), &FOUND, true)
 }
 
 #[test]
 fn other_instances_are_no_workingsteps(rt: HostRuntime) -> Result<(), Fail> {
-    let rows = [row!(20 46 TwistDrill [Absent] Err(Missing(20, 2)))];
-    assert_eq!(rt; first_wrong(rt.alloc(), &rows)?, Some((0, None)));
-    let rows = [row!(99 46 TwistDrill [Absent] Err(Missing(99, 2)))];
-    assert_eq!(rt; first_wrong(rt.alloc(), &rows)?, Some((0, None)));
-    Ok(())
+    let rows = [
+        row!(20 46 TwistDrill [Absent] Err(Missing(20, 2))),
+        row!(99 46 TwistDrill [Absent] Err(Missing(99, 2))),
+    ];
+    expect_rows(&rt, rt.alloc(), &rows, false)
 }

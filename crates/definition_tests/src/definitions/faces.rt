@@ -130,12 +130,10 @@ const FOUND: [Row; 14] = [
 
 #[test]
 fn faults_of_faces(rt: HostRuntime) -> Result<(), Fail> {
-    assert_eq!(rt; first_wrong(rt.alloc(), &FAULTS)?, None);
-    Ok(())
+    expect_rows(&rt, rt.alloc(), &FAULTS, true)
 }
 
 #[test]
 fn definitions_of_faces(rt: HostRuntime) -> Result<(), Fail> {
-    assert_eq!(rt; first_wrong(rt.alloc(), &FOUND)?, None);
-    Ok(())
+    expect_rows(&rt, rt.alloc(), &FOUND, true)
 }

@@ -42,12 +42,10 @@ const FOUND: [Row; 9] = [
 
 #[test]
 fn faults_of_holes(rt: HostRuntime) -> Result<(), Fail> {
-    assert_eq!(rt; first_wrong(rt.alloc(), &FAULTS)?, None);
-    Ok(())
+    expect_rows(&rt, rt.alloc(), &FAULTS, true)
 }
 
 #[test]
 fn definitions_of_holes(rt: HostRuntime) -> Result<(), Fail> {
-    assert_eq!(rt; first_wrong(rt.alloc(), &FOUND)?, None);
-    Ok(())
+    expect_rows(&rt, rt.alloc(), &FOUND, true)
 }

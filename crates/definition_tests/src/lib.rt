@@ -1,0 +1,5 @@
+//! Tests of definitions: step_def.
+#![tactic(auto)]
+
+#[cfg(test)]
+mod definitions;
