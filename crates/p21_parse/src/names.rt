@@ -12,7 +12,7 @@ use p21_lex::TokenKind;
 use std::alloc::Global;
 
 /// What is wrong with the names of instances.
-#[derive(Clone, Copy, Debug, PartialEq, Eq)]
+#[derive(Clone, Copy)]
 pub enum NameFault {
     /// The name at this index is one too many.
     TooMany(usize),

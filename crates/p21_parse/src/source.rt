@@ -23,7 +23,7 @@ pub struct Source<'a> {
 }
 
 /// Why reading stops, and at which token.
-#[derive(Clone, Copy, Debug, PartialEq, Eq)]
+#[derive(Clone, Copy)]
 pub enum Stop {
     /// Nothing of the grammar goes on with the token at this index, or with the end.
     Syntax(usize),

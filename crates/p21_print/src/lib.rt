@@ -6,8 +6,6 @@ mod laws;
 mod params;
 mod parts;
 mod pieces;
-#[cfg(test)]
-mod tests;
 
 pub use file::print;
 pub use laws::print_laws;

@@ -1,9 +1,10 @@
-use super::*;
+//! Exchanges that are printed, and read back.
+
+use crate::shared::{joined, read_text};
 use nc_base::{NcText, NoMemory};
-use p21_parse::{
-    Exchange, Instance, InstanceList, Param, ParamList, Part, PartList, ReadErr, read,
-};
-use std::alloc::{AllocError, Global};
+use p21_parse::{Exchange, Instance, InstanceList, Param, ParamList, Part, PartList};
+use p21_print::{print, print_laws};
+use std::alloc::Global;
 use std::process::Abort;
 use std::test::Fail;
 
@@ -45,17 +46,17 @@ const FILES: &[(&[u8], &[u8], &[u8], &[u8])] = &[
     ),
 ];
 
-fn joined(alloc: Global, pieces: &[&[u8]]) -> Result<Vec<u8>, AllocError> {
-    let mut text = Vec::new(alloc);
-    for piece in pieces {
-        text.extend_from_slice(piece)?;
-    }
-    Ok(text)
-}
-
-fn read_text(rt: &impl Abort, alloc: Global, text: &[u8]) -> Result<Exchange, ReadErr> {
-    assert!(rt; text.len() <= 268_435_456);
-    read(alloc, text)
+// A text is read, printed, read back and printed again.
+fn expect_printed(
+    rt: &impl Abort,
+    alloc: Global,
+    written: &[u8],
+    plain: &[u8],
+) -> Result<(), Fail> {
+    let exchange = read_text(rt, alloc, written)?;
+    let printed = print(alloc, &exchange)?;
+    assert_eq!(rt; printed.as_slice(), plain);
+    Ok(())
 }
 
 #[test]
@@ -63,22 +64,28 @@ fn what_is_read_is_printed_plainly(rt: HostRuntime) -> Result<(), Fail> {
     let alloc = rt.alloc();
     print_laws();
     for (entries, printed_entries, instances, printed_instances) in FILES {
-        let written = joined(alloc, &[HEAD, *entries, MIDDLE, *instances, TAIL])?;
+        let written = joined(
+            alloc,
+            &[
+                (HEAD, 1),
+                (*entries, 1),
+                (MIDDLE, 1),
+                (*instances, 1),
+                (TAIL, 1),
+            ],
+        )?;
         let plain = joined(
             alloc,
             &[
-                PRINTED_HEAD,
-                *printed_entries,
-                PRINTED_MIDDLE,
-                *printed_instances,
-                PRINTED_TAIL,
+                (PRINTED_HEAD, 1),
+                (*printed_entries, 1),
+                (PRINTED_MIDDLE, 1),
+                (*printed_instances, 1),
+                (PRINTED_TAIL, 1),
             ],
         )?;
-        let exchange = read_text(&rt, alloc, written.as_slice())?;
-        let printed = print(alloc, &exchange)?;
-        assert_eq!(rt; printed.as_slice(), plain.as_slice());
-        let again = read_text(&rt, alloc, printed.as_slice())?;
-        assert_eq!(rt; print(alloc, &again)?.as_slice(), plain.as_slice());
+        expect_printed(&rt, alloc, written.as_slice(), plain.as_slice())?;
+        expect_printed(&rt, alloc, plain.as_slice(), plain.as_slice())?;
     }
     Ok(())
 }
@@ -165,8 +172,5 @@ fn what_is_made_of_instances_is_printed_and_read_back(rt: HostRuntime) -> Result
     let made = Exchange::of(alloc, items)?;
     let printed = print(alloc, &made)?;
     assert_eq!(rt; printed.as_slice(), MADE);
-    let again = read_text(&rt, alloc, printed.as_slice())?;
-    assert_eq!(rt; again.items.len(), 1);
-    assert_eq!(rt; print(alloc, &again)?.as_slice(), MADE);
-    Ok(())
+    expect_printed(&rt, alloc, printed.as_slice(), MADE)
 }

@@ -1,0 +1,603 @@
+//! Texts that are read as exchanges, or refused.
+
+use crate::shared::{HEAD, TAIL, joined, read_text};
+use ReadErr::{Duplicate, Lex, Syntax, TooDeep, TooMany};
+use p21_lex::LexErr::{BadByte, BadName, NumberTooLong, OpenString};
+use p21_parse::{
+    Instance, MAX_INSTANCES, Param, ParamList, ReadErr, grammar_laws, instance_laws, text_laws,
+};
+use std::alloc::Global;
+use std::process::Abort;
+use std::test::Fail;
+
+// The beginnings of a header, of 22, 52, 90 and 125 bytes, and its end.
+const TOP: &[u8] = b"ISO-10303-21;\nHEADER;\n";
+
+const DESCRIBED: &[u8] = b"ISO-10303-21;\nHEADER;\nFILE_DESCRIPTION((''),'2;1');\n";
+
+const NAMED: &[u8] =
+    b"ISO-10303-21;\nHEADER;\nFILE_DESCRIPTION((''),'2;1');\nFILE_NAME('A','',(''),(''),'','','');\n";
+
+const HEADED: &[u8] =
+    b"ISO-10303-21;\nHEADER;\nFILE_DESCRIPTION((''),'2;1');\nFILE_NAME('A','',(''),(''),'','','');\nFILE_SCHEMA(('MACHINING_SCHEMA'));\n";
+
+const DATA: &[u8] = b"ENDSEC;\nDATA;\n";
+
+// A project with one drilled hole.
+const DRILLED_HOLE: &[u8] =
+    b"ISO-10303-21;\nHEADER;\nFILE_DESCRIPTION((''),'2;1');\nFILE_NAME('A','',(''),(''),'','','');\nFILE_SCHEMA(('MACHINING_SCHEMA'));\nENDSEC;\nDATA;\n#1=PROJECT('P',#2);\n#2=WORKPLAN('MAIN',(#10),$);\n#10=MACHINING_WORKINGSTEP('WS',#50,#20,#30);\n#20=ROUND_HOLE('H',$,(),#60,#51,10.);\n#30=DRILLING($,$,'D',5.,$,#44,#45,$,$,$,$,$);\n#44=MILLING_CUTTING_TOOL('T',#46);\n#45=MILLING_TECHNOLOGY(0.040,$,$,20.);\n#46=TWIST_DRILL(#47);\n#47=MILLING_TOOL_DIMENSION(10.);\n#50=PLANE('SEC',#61);\n#51=PLANE('DEPTH',#62);\n#60=AXIS2_PLACEMENT_3D('',#70,$,$);\n#61=AXIS2_PLACEMENT_3D('',#71,$,$);\n#62=AXIS2_PLACEMENT_3D('',#72,$,$);\n#70=CARTESIAN_POINT('',(10.,20.,0.));\n#71=CARTESIAN_POINT('',(0.,0.,30.));\n#72=CARTESIAN_POINT('',(0.,0.,-15.));\nENDSEC;\nEND-ISO-10303-21;\n";
+
+// A plate with a face, a hole and a pocket.
+const PLATE: &[u8] =
+    b"ISO-10303-21;\nHEADER;\n/* written by a CAM system */\nFILE_DESCRIPTION(('PLATE'),'2;1');\nFILE_NAME('PLATE.STP','2004-05-01T10:00:00',('A. WRITER'),('SHOP'),'','CAM','');\nFILE_SCHEMA(('MACHINING_SCHEMA','MILLING_SCHEMA'));\nENDSEC;\nDATA;\n#1=PROJECT('PLATE',#2,(#4),$,$,$);\n#2=WORKPLAN('MAIN WORKPLAN',(#10,#11,#12,#13),$,#8,$);\n#4=WORKPIECE('PLATE',$,0.01,$,$,$,());\n#8=SETUP('SETUP1',$,#50,());\n#9=(GEOMETRIC_REPRESENTATION_CONTEXT(3)REPRESENTATION_CONTEXT('',''));\n#10=MACHINING_WORKINGSTEP('FACE',#50,#16,#20,$);\n#11=MACHINING_WORKINGSTEP('DRILL',#50,#17,#21,$);\n#12=MACHINING_WORKINGSTEP('REAM',#50,#17,#22,$);\n#13=MACHINING_WORKINGSTEP('POCKET',#50,#18,#23,$);\n#16=PLANAR_FACE('FACE',#4,(#20),#60,#51,#24,#25,$,());\n#17=ROUND_HOLE('HOLE',#4,(#21,#22),#61,#52,#34,$,$);\n#18=CLOSED_POCKET('POCKET',#4,(#23),#62,#53,(),$,$,#35,$,#26);\n#20=PLANE_FINISH_MILLING($,$,'F',10.,$,#40,#45,$,$,$,$,#28,2.5,$);\n#21=DRILLING($,$,'D',10.,$,#41,#46,$,$,$,$,$,$,$);\n#22=REAMING($,$,'R',10.,$,#42,#46,$,$,$,$,0.5,$,$,.T.,$,$);\n#23=BOTTOM_AND_SIDE_ROUGH_MILLING($,$,'P',15.,$,#40,#45,$,$,$,$,#29,6.5,5.,1.,0.5);\n#24=LINEAR_PATH($,#36,#74);\n#25=LINEAR_PROFILE($,#37);\n#26=GENERAL_CLOSED_PROFILE($,#27);\n#27=POLYLINE('CONTOUR',(#75,#76,#77,#78,#75));\n#28=BIDIRECTIONAL(0.05,.T.,#74,.LEFT.,$);\n#29=CONTOUR_PARALLEL(0.05,.T.,.CCW.,.CONVENTIONAL.);\n#34=TOLERANCED_LENGTH_MEASURE(22.,#38);\n#35=TOLERANCED_LENGTH_MEASURE(10.,#38);\n#36=TOLERANCED_LENGTH_MEASURE(120.,#38);\n#37=NUMERIC_PARAMETER('PROFILE LENGTH',100.,'MM');\n#38=PLUS_MINUS_VALUE(0.3,0.3,3);\n#40=MILLING_CUTTING_TOOL('MILL',#43,(),80.,$,$);\n#41=MILLING_CUTTING_TOOL('DRILL',#44,(),90.,$,$);\n#42=MILLING_CUTTING_TOOL('REAMER',#47,(),100.,$,$);\n#43=ENDMILL(#48,4,.RIGHT.,.F.,$);\n#44=TWIST_DRILL(#48,2,.RIGHT.,.F.,0.84);\n#45=MILLING_TECHNOLOGY(0.04,.TCP.,$,20.,$,.F.,.F.,.F.,$);\n#46=MILLING_TECHNOLOGY(0.03,.TCP.,$,16.,$,.F.,.F.,.F.,$);\n#47=REAMER(#48,6,.RIGHT.,.F.,$);\n#48=MILLING_TOOL_DIMENSION(20.,$,$,$,$,$,$);\n#50=PLANE('SECURITY',#63);\n#51=PLANE('FACE DEPTH',#64);\n#52=PLANE('HOLE DEPTH',#65);\n#53=PLANE('POCKET DEPTH',#65);\n#60=AXIS2_PLACEMENT_3D('FACE',#70,#79,#80);\n#61=AXIS2_PLACEMENT_3D('HOLE',#71,#79,#80);\n#62=AXIS2_PLACEMENT_3D('POCKET',#72,#79,#80);\n#63=AXIS2_PLACEMENT_3D('SECURITY',#73,#79,#80);\n#64=AXIS2_PLACEMENT_3D('',#81,#79,#80);\n#65=AXIS2_PLACEMENT_3D('',#82,#79,#80);\n#70=CARTESIAN_POINT('',(0.,0.,5.));\n#71=CARTESIAN_POINT('',(20.,60.,0.));\n#72=CARTESIAN_POINT('',(40.,20.,0.));\n#73=CARTESIAN_POINT('',(0.,0.,30.));\n#74=DIRECTION('',(0.,1.,0.));\n#75=CARTESIAN_POINT('',(0.,0.,0.));\n#76=CARTESIAN_POINT('',(0.,80.,0.));\n#77=CARTESIAN_POINT('',(50.,80.,0.));\n#78=CARTESIAN_POINT('',(50.,0.,0.));\n#79=DIRECTION('',(0.,0.,1.));\n#80=DIRECTION('',(1.,0.,0.));\n#81=CARTESIAN_POINT('',(0.,0.,-5.));\n#82=CARTESIAN_POINT('',(0.,0.,-30.));\nENDSEC;\nEND-ISO-10303-21;\n";
+
+// A parameter of each kind.
+const KINDS: &[u8] =
+    b"#7 = A ( * , \"0F\" , 'it''s' ) ;\n#8=A(.B_1.,!C(5.),#008);\n#9=A($,-1,((),2));\n";
+
+// Instances behind the 139 bytes of a head, and why the file is refused, if it is.
+const INSTANCES: &[(&[u8], Option<ReadErr>)] = &[
+    (b"", None),
+    (b"#2147483647=A();\n#1=A('''',#1);\n", None),
+    (b"#5=!A(!B(1));\n", None),
+    (b"#5=(A());\n", None),
+    (b"#5=A(+12345678901234567890123456789012345678);\n", None),
+    (b"#5=A(#5,'#5=');\n#6=A(#5);\n", None),
+    // Tokens.
+    (
+        b"#5=A(123456789012345678901234567890123456789);\n",
+        Some(Lex(NumberTooLong(144))),
+    ),
+    (b"#0=A();\n", Some(Lex(BadName(139)))),
+    (b"#2147483648=A();\n", Some(Lex(BadName(139)))),
+    (b"#5=A(a);\n", Some(Lex(BadByte(144)))),
+    (b"#5=A('a\x01');\n", Some(Lex(BadByte(146)))),
+    (b"#5=;\n#5=A(.5);\n", Some(Lex(BadByte(149)))),
+    (b"#5=A();\n#5=A();\n#0=A();\n", Some(Lex(BadName(155)))),
+    // Instances.
+    (b"A();\n", Some(Syntax(139))),
+    (b"#5 A();\n", Some(Syntax(142))),
+    (b"#5=;\n", Some(Syntax(142))),
+    (b"#5=#6();\n", Some(Syntax(142))),
+    (b"#5=A-B();\n", Some(Syntax(142))),
+    (b"#5=!A-5();\n", Some(Syntax(144))),
+    (b"#5=A;\n", Some(Syntax(143))),
+    (b"#5=A()\n", Some(Syntax(146))),
+    (b"#5=A()B();\n", Some(Syntax(145))),
+    (b"#5=();\n", Some(Syntax(143))),
+    (b"#5=(A(),B());\n", Some(Syntax(146))),
+    (b"#5=((A()));\n", Some(Syntax(143))),
+    (b"#5=(A();\n", Some(Syntax(146))),
+    // Parameters.
+    (b"#5=A(1,);\n", Some(Syntax(146))),
+    (b"#5=A(,1);\n", Some(Syntax(144))),
+    (b"#5=A(1 2);\n", Some(Syntax(146))),
+    (b"#5=A(1;\n", Some(Syntax(145))),
+    (b"#5=A((1);\n", Some(Syntax(147))),
+    (b"#5=A(=);\n", Some(Syntax(144))),
+    (b"#5=A(B-C);\n", Some(Syntax(144))),
+    (b"#5=A(!B);\n", Some(Syntax(146))),
+    (b"#5=A(B());\n", Some(Syntax(146))),
+    (b"#5=A(B(1,2));\n", Some(Syntax(147))),
+    // Numbers that come twice, before or behind another fault.
+    (b"#72=A();\n#72=A();\n", Some(Duplicate(72))),
+    (b"#72=A();\n#73=(A());\n#0072=B();\n", Some(Duplicate(72))),
+    (b"#5=A();\n#6=A();\n#6=A();\n#5=A();\n", Some(Duplicate(6))),
+    (b"#5=A();\n#5 A();\n", Some(Duplicate(5))),
+    (b"#5=A();\n#5=;\n", Some(Duplicate(5))),
+    (b"#5=;\n#5=A();\n", Some(Syntax(142))),
+    (b"#5=A()#5=A();\n", Some(Syntax(145))),
+];
+
+// Texts in pieces, each so many times, and why they are refused, if they are.
+type Row<'a> = (&'a [(&'a [u8], u32)], Option<ReadErr>);
+
+const HEADERS: &[Row<'static>] = &[
+    (&[], Some(Syntax(0))),
+    (&[(b" ", 9), (b"/* */", 1)], Some(Syntax(14))),
+    (&[(b"HEADER;", 1)], Some(Syntax(0))),
+    (&[(b"ISO-10303-21", 1)], Some(Syntax(12))),
+    (
+        &[(TOP, 1), (b"FILE_DESCRIPTION(('AB", 1)],
+        Some(Lex(OpenString(40))),
+    ),
+    (&[(TOP, 1), (b"FILE_NAME('','');\n", 1)], Some(Syntax(22))),
+    (
+        &[(TOP, 1), (b"FILE_DESCRIPTION((''));\n", 1)],
+        Some(Syntax(43)),
+    ),
+    (
+        &[(TOP, 1), (b"FILE_DESCRIPTION('','','');\n", 1)],
+        Some(Syntax(44)),
+    ),
+    (&[(DESCRIBED, 1)], Some(Syntax(52))),
+    // Six and eight parameters.
+    (
+        &[(DESCRIBED, 1), (b"FILE_NAME('A','',(''),(''),'','');\n", 1)],
+        Some(Syntax(84)),
+    ),
+    (
+        &[
+            (DESCRIBED, 1),
+            (b"FILE_NAME('A','',(''),(''),'','','','');\n", 1),
+        ],
+        Some(Syntax(87)),
+    ),
+    // Schemas.
+    (&[(NAMED, 1), (b"FILE_SCHEMA();\n", 1)], Some(Syntax(102))),
+    (&[(NAMED, 1), (b"FILE_SCHEMA(());\n", 1)], Some(Syntax(103))),
+    (
+        &[(NAMED, 1), (b"FILE_SCHEMA((1));\n", 1)],
+        Some(Syntax(103)),
+    ),
+    (
+        &[(NAMED, 1), (b"FILE_SCHEMA('M');\n", 1)],
+        Some(Syntax(102)),
+    ),
+    (
+        &[(NAMED, 1), (b"FILE_SCHEMA(('M',));\n", 1)],
+        Some(Syntax(107)),
+    ),
+    (
+        &[(NAMED, 1), (b"FILE_SCHEMA(('M'),1);\n", 1)],
+        Some(Syntax(107)),
+    ),
+    // Further entries.
+    (
+        &[(HEADED, 1), (b"ENDSEC(1);\n", 2), (DATA, 1), (TAIL, 1)],
+        None,
+    ),
+    (
+        &[
+            (HEADED, 1),
+            (b"DATA(1,());!X(A(*));", 1),
+            (DATA, 1),
+            (TAIL, 1),
+        ],
+        None,
+    ),
+    (&[(HEADED, 1), (b"EXTRA();\n", 1)], Some(Syntax(131))),
+    (&[(HEADED, 1), (b"ENDSEC();\n", 1)], Some(Syntax(132))),
+    (&[(HEADED, 1), (b"ENDSEC X", 1)], Some(Syntax(132))),
+    (&[(HEADED, 1), (b"A-B(1);\n", 1)], Some(Syntax(125))),
+    (
+        &[(HEADED, 1), (b"ENDSEC;\nDATA(1);\n", 1)],
+        Some(Syntax(137)),
+    ),
+    // Ends.
+    (&[(HEAD, 1)], Some(Syntax(139))),
+    (&[(HEAD, 1), (b"END-ISO-10303-21;", 1)], Some(Syntax(139))),
+    (&[(HEAD, 1), (b"ENDSEC;\n", 1)], Some(Syntax(147))),
+    (
+        &[(HEAD, 1), (b"ENDSEC;\nEND-ISO-10303-21", 1)],
+        Some(Syntax(163)),
+    ),
+    (
+        &[(HEAD, 1), (TAIL, 1), (b"#5=A();\n", 1)],
+        Some(Syntax(165)),
+    ),
+    (&[(HEAD, 1), (TAIL, 1), (b";", 1)], Some(Syntax(165))),
+    (
+        &[(b" /* */ ", 1), (HEAD, 1), (TAIL, 1), (b"/* */\n", 2)],
+        None,
+    ),
+    (&[(HEAD, 1), (b"#5=A();\n#6=A(", 1)], Some(Syntax(152))),
+    // A text that ends with the number that comes twice.
+    (&[(HEAD, 1), (b"#5=A();\n#5", 1)], Some(Duplicate(5))),
+];
+
+const NESTED: &[Row<'static>] = &[
+    // Lists.
+    (
+        &[
+            (HEAD, 1),
+            (b"#5=A", 1),
+            (b"(", 32),
+            (b")", 32),
+            (b";", 1),
+            (TAIL, 1),
+        ],
+        None,
+    ),
+    (
+        &[
+            (HEAD, 1),
+            (b"#5=A", 1),
+            (b"(", 33),
+            (b")", 33),
+            (b";", 1),
+            (TAIL, 1),
+        ],
+        Some(TooDeep(175)),
+    ),
+    (&[(HEAD, 1), (b"#5=A", 1), (b"(", 32)], Some(Syntax(175))),
+    (
+        &[
+            (HEAD, 1),
+            (b"#5=A(", 1),
+            (b"(),", 40),
+            (b"1);", 1),
+            (TAIL, 1),
+        ],
+        None,
+    ),
+    // Typed parameters.
+    (
+        &[
+            (HEAD, 1),
+            (b"#5=A(", 1),
+            (b"B(", 31),
+            (b"1", 1),
+            (b")", 32),
+            (b";", 1),
+            (TAIL, 1),
+        ],
+        None,
+    ),
+    (
+        &[
+            (HEAD, 1),
+            (b"#5=A(", 1),
+            (b"B(", 32),
+            (b"1", 1),
+            (b")", 33),
+            (b";", 1),
+            (TAIL, 1),
+        ],
+        Some(TooDeep(207)),
+    ),
+    (
+        &[(HEAD, 1), (b"#5=A(", 1), (b"B(", 31), (b"B", 1), (b")", 32)],
+        Some(Syntax(207)),
+    ),
+    // Complex instances.
+    (
+        &[
+            (HEAD, 1),
+            (b"#5=(A()B", 1),
+            (b"(", 32),
+            (b")", 33),
+            (b";", 1),
+            (TAIL, 1),
+        ],
+        None,
+    ),
+    (
+        &[
+            (HEAD, 1),
+            (b"#5=(A()B", 1),
+            (b"(", 33),
+            (b")", 34),
+            (b";", 1),
+            (TAIL, 1),
+        ],
+        Some(TooDeep(179)),
+    ),
+    // The header.
+    (
+        &[
+            (HEADED, 1),
+            (b"E", 1),
+            (b"(", 32),
+            (b"1", 1),
+            (b")", 32),
+            (b";", 1),
+            (DATA, 1),
+            (TAIL, 1),
+        ],
+        None,
+    ),
+    (
+        &[
+            (HEADED, 1),
+            (b"E", 1),
+            (b"(", 33),
+            (b"1", 1),
+            (b")", 33),
+            (b";", 1),
+            (DATA, 1),
+            (TAIL, 1),
+        ],
+        Some(TooDeep(158)),
+    ),
+    (
+        &[(TOP, 1), (b"FILE_DESCRIPTION", 1), (b"(", 33)],
+        Some(TooDeep(70)),
+    ),
+    // Beside a number that comes twice.
+    (
+        &[(HEAD, 1), (b"#5=A();\n", 2), (b"#6=A", 1), (b"(", 33)],
+        Some(Duplicate(5)),
+    ),
+    (
+        &[
+            (HEAD, 1),
+            (b"#5=A", 1),
+            (b"(", 33),
+            (b")", 33),
+            (b";\n#5=A();\n", 1),
+            (TAIL, 1),
+        ],
+        Some(TooDeep(175)),
+    ),
+];
+
+// What follows instances 1 to 199,999, whose numbers go from 100,001 on and which take 12 bytes each, and why the file is refused, if it is.
+const LAST: &[(&[u8], Option<ReadErr>)] = &[
+    (b"#300000=A();", None),
+    (b"#100001=A();", Some(Duplicate(100_001))),
+    (b"#300000=A();#300001=A();", Some(TooMany(2_400_139))),
+    (b"#300000=A();#100001=A();", Some(TooMany(2_400_139))),
+];
+
+// Instances of these numbers, which go from one on by a step.
+fn stepped(alloc: Global, first: u32, step: u32, count: u32) -> Result<Vec<u8>, Fail> {
+    let mut text = Vec::new(alloc);
+    let mut number = first;
+    for _ in 0..count {
+        let line = format!(in alloc; "#{number}=A();")?;
+        text.extend_from_slice(line.as_bytes())?;
+        number = number.wrapping_add(step);
+    }
+    Ok(text)
+}
+
+fn expect_refusal(
+    rt: &impl Abort,
+    alloc: Global,
+    pieces: &[(&[u8], u32)],
+    want: Option<ReadErr>,
+) -> Result<(), Fail> {
+    let text = joined(alloc, pieces)?;
+    let answer = read_text(rt, alloc, text.as_slice());
+    assert_eq!(rt; answer.err(), want, "of {} bytes", text.len());
+    Ok(())
+}
+
+#[test]
+fn files_are_read_or_refused_at_their_place(rt: HostRuntime) -> Result<(), Fail> {
+    for (instances, refusal) in INSTANCES {
+        expect_refusal(
+            &rt,
+            rt.alloc(),
+            &[(HEAD, 1), (*instances, 1), (TAIL, 1)],
+            *refusal,
+        )?;
+    }
+    for rows in [HEADERS, NESTED] {
+        for (pieces, refusal) in rows {
+            expect_refusal(&rt, rt.alloc(), *pieces, *refusal)?;
+        }
+    }
+    Ok(())
+}
+
+#[test]
+fn files_have_at_most_200_000_instances(rt: HostRuntime) -> Result<(), Fail> {
+    let front = stepped(rt.alloc(), 100_001, 1, MAX_INSTANCES as u32 - 1)?;
+    for (last, refusal) in LAST {
+        expect_refusal(
+            &rt,
+            rt.alloc(),
+            &[(HEAD, 1), (&front, 1), (*last, 1), (TAIL, 1)],
+            *refusal,
+        )?;
+    }
+    Ok(())
+}
+
+fn expect_count(
+    rt: &impl Abort,
+    alloc: Global,
+    pieces: &[(&[u8], u32)],
+    want: u32,
+) -> Result<(), Fail> {
+    let text = joined(alloc, pieces)?;
+    let exchange = read_text(rt, alloc, text.as_slice())?;
+    assert_eq!(rt; exchange.items.len(), want);
+    Ok(())
+}
+
+#[test]
+fn files_of_200_000_instances_have_them_all(rt: HostRuntime) -> Result<(), Fail> {
+    let front = stepped(rt.alloc(), 100_001, 1, MAX_INSTANCES as u32 - 1)?;
+    expect_count(
+        &rt,
+        rt.alloc(),
+        &[(HEAD, 1), (&front, 1), (b"#300000=A();", 1), (TAIL, 1)],
+        MAX_INSTANCES as u32,
+    )
+}
+
+// 199,900 numbers that a file may pick so that a hash over them has them all in one place: each 8192 from the next. Nothing is hashed, so they
+// take no longer than others, whether they rise, or fall, or one of them stands a second time at the end.
+const COLLIDING: u32 = 199_900;
+
+const STEP: u32 = 8192;
+
+#[test]
+fn numbers_that_rise_by_a_step_are_read(rt: HostRuntime) -> Result<(), Fail> {
+    let front = stepped(rt.alloc(), STEP, STEP, COLLIDING)?;
+    expect_refusal(&rt, rt.alloc(), &[(HEAD, 1), (&front, 1), (TAIL, 1)], None)?;
+    expect_refusal(
+        &rt,
+        rt.alloc(),
+        &[(HEAD, 1), (&front, 1), (b"#8192=A();", 1), (TAIL, 1)],
+        Some(Duplicate(8192)),
+    )
+}
+
+#[test]
+fn numbers_that_fall_by_a_step_are_read(rt: HostRuntime) -> Result<(), Fail> {
+    let front = stepped(
+        rt.alloc(),
+        COLLIDING * STEP,
+        0u32.wrapping_sub(STEP),
+        COLLIDING,
+    )?;
+    expect_refusal(&rt, rt.alloc(), &[(HEAD, 1), (&front, 1), (TAIL, 1)], None)?;
+    expect_refusal(
+        &rt,
+        rt.alloc(),
+        &[(HEAD, 1), (&front, 1), (b"#1637580800=A();", 1), (TAIL, 1)],
+        Some(Duplicate(1_637_580_800)),
+    )
+}
+
+// Instances of which the number at one index stands once more at another, and a fault behind them.
+fn with_repeat(alloc: Global, first: u32, again: u32) -> Result<Vec<u8>, Fail> {
+    let mut text = Vec::new(alloc);
+    for i in 0..SMALL {
+        let number = 100 + if i == again { first } else { i };
+        let line = format!(in alloc; "#{number}=A();")?;
+        text.extend_from_slice(line.as_bytes())?;
+    }
+    Ok(text)
+}
+
+const SMALL: u32 = 7;
+
+#[test]
+fn a_number_is_found_wherever_it_stands_again(rt: HostRuntime) -> Result<(), Fail> {
+    for again in 1..SMALL {
+        for first in 0..again {
+            let text = with_repeat(rt.alloc(), first, again)?;
+            expect_refusal(
+                &rt,
+                rt.alloc(),
+                &[(HEAD, 1), (&text, 1), (b"#9=;", 1)],
+                Some(Duplicate(100 + first)),
+            )?;
+        }
+    }
+    Ok(())
+}
+
+#[test]
+fn instances_are_read(rt: HostRuntime) -> Result<(), Fail> {
+    let hole = read_text(&rt, rt.alloc(), DRILLED_HOLE)?;
+    assert_eq!(rt; hole.head.len(), 3);
+    assert_eq!(rt; hole.items.len(), 17);
+    let plate = read_text(&rt, rt.alloc(), PLATE)?;
+    assert_eq!(rt; plate.head.len(), 3);
+    assert_eq!(rt; plate.items.len(), 59);
+    let [_, plan, _, _, context, ..] = plate.items.as_slice() else {
+        panic!(rt; "no plan")
+    };
+    assert_eq!(rt; plan.number, 2);
+    assert!(rt; !plan.complex);
+    let [part] = plan.parts.as_slice() else {
+        panic!(rt; "not one part")
+    };
+    assert_eq!(rt; part.keyword.bytes(), b"WORKPLAN".as_slice());
+    let [
+        Param::Text(text),
+        Param::List(steps),
+        Param::Unset,
+        Param::Reference(8),
+        Param::Unset,
+    ] = part.parameters.as_slice()
+    else {
+        panic!(rt; "other parameters")
+    };
+    assert_eq!(rt; text.bytes(), b"MAIN WORKPLAN".as_slice());
+    assert_eq!(rt; steps.len(), 4);
+    let [_, _, _, Param::Reference(13)] = steps.as_slice() else {
+        panic!(rt; "other steps")
+    };
+    assert_eq!(rt; context.number, 9);
+    assert!(rt; context.complex);
+    let [first, second] = context.parts.as_slice() else {
+        panic!(rt; "not two parts")
+    };
+    assert_eq!(rt;
+        first.keyword.bytes(),
+        b"GEOMETRIC_REPRESENTATION_CONTEXT".as_slice()
+    );
+    assert_eq!(rt;
+        second.keyword.bytes(),
+        b"REPRESENTATION_CONTEXT".as_slice()
+    );
+    assert_eq!(rt; second.parameters.len(), 2);
+    Ok(())
+}
+
+fn are_derived_binary_text(params: &[Param]) -> bool {
+    let [Param::Derived, Param::Binary(binary), Param::Text(raw)] = params else {
+        return false;
+    };
+    binary.bytes() == b"0F".as_slice() && raw.bytes() == b"it''s".as_slice()
+}
+
+fn is_real(params: &[Param]) -> bool {
+    let [Param::Real(real)] = params else {
+        return false;
+    };
+    real.bytes() == b"5.".as_slice()
+}
+
+fn are_enumeration_typed_reference(params: &[Param]) -> bool {
+    let [
+        Param::Enumeration(word),
+        Param::Typed(keyword, inner),
+        Param::Reference(8),
+    ] = params
+    else {
+        return false;
+    };
+    word.bytes() == b"B_1".as_slice()
+        && keyword.bytes() == b"!C".as_slice()
+        && is_real(inner.as_slice())
+}
+
+fn are_list_int(params: &[Param]) -> bool {
+    let [Param::List(none), Param::Int(two)] = params else {
+        return false;
+    };
+    none.is_empty() && two.bytes() == b"2".as_slice()
+}
+
+fn are_unset_int_list(params: &[Param]) -> bool {
+    let [Param::Unset, Param::Int(whole), Param::List(params)] = params else {
+        return false;
+    };
+    whole.bytes() == b"-1".as_slice() && are_list_int(params.as_slice())
+}
+
+// The parameters of a simple instance.
+fn parameters(item: &Instance) -> &[Param] {
+    match item.parts.as_slice() {
+        [part] => part.parameters.as_slice(),
+        _ => &[],
+    }
+}
+
+#[test]
+fn parameters_of_each_kind_are_read(rt: HostRuntime) -> Result<(), Fail> {
+    let text = joined(rt.alloc(), &[(HEAD, 1), (KINDS, 1), (TAIL, 1)])?;
+    let exchange = read_text(&rt, rt.alloc(), text.as_slice())?;
+    let [first, second, third] = exchange.items.as_slice() else {
+        panic!(rt; "not three instances")
+    };
+    assert!(rt; are_derived_binary_text(parameters(first)));
+    assert!(rt; are_enumeration_typed_reference(parameters(second)));
+    assert!(rt; are_unset_int_list(parameters(third)));
+    Ok(())
+}
+
+#[test]
+fn lists_of_parameters_grow_and_shrink(rt: HostRuntime) -> Result<(), Fail> {
+    let mut params = ParamList::new(rt.alloc());
+    assert!(rt; params.is_empty());
+    params.push(Param::Reference(7))?;
+    params.push(Param::Derived)?;
+    assert_eq!(rt; params.len(), 2);
+    assert!(rt; matches!(params.at(1), Param::Derived));
+    assert!(rt; matches!(params.pop(), Some(Param::Derived)));
+    assert!(rt; matches!(params.pop(), Some(Param::Reference(7))));
+    assert!(rt; params.pop().is_none());
+    grammar_laws();
+    instance_laws();
+    text_laws();
+    Ok(())
+}
