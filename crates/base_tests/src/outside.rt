@@ -114,15 +114,3 @@ fn the_host_is_written_in_blocks(rt: HostRuntime) -> Result<(), Fail> {
     expect(&rt, sink.flush(), Ok(()));
     Ok(())
 }
-
-#[test]
-fn a_gate_holds_nobody() {
-    for point in [
-        GatePoint::BeforeEntry,
-        GatePoint::AfterEntry,
-        GatePoint::BeforePlan,
-        GatePoint::AfterKept,
-    ] {
-        FreeGate.pass(16, point);
-    }
-}
