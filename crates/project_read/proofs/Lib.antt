@@ -3,3 +3,4 @@ pub mod Storing
 pub mod Planning
 pub mod Faulting
 pub mod Holding
+pub mod Progress

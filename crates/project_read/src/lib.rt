@@ -6,11 +6,9 @@ mod plan;
 mod project;
 mod reading;
 mod reason;
+mod slices;
 mod steps;
 
 pub use project::Project;
 pub use reading::project_in;
 pub use reason::{ProjectErr, ProjectReason};
-
-#[cfg(test)]
-mod tests;
