@@ -15,8 +15,9 @@ use Rattle.project_read.specs.Plan.{IsPlan}
 use Rattle.project_read.specs.Faults.{has_def}
 use Rattle.project_read.specs.Holds.{HasStore}
 use Rattle.project_read.specs.Reads.{Reads, ReadsStore, HasNoPlan, AreSteps}
+use Rattle.project_read.specs.declared.project.TheConstants.{MAX_PROJECT_BYTES}
 
-pub store_not_read : (bytes : List ℕ) (e : ReadErr) → length bytes ≤ 16777216 → IsRefusedText bytes e → ReadsStore bytes (Err (from_read e))
+pub store_not_read : (bytes : List ℕ) (e : ReadErr) → length bytes ≤ MAX_PROJECT_BYTES → IsRefusedText bytes e → ReadsStore bytes (Err (from_read e))
 store_not_read bytes (reads.Lex lexes.NoMemory) short at = tt
 store_not_read bytes (reads.Lex (lexes.BadByte place)) short at = (short, at)
 store_not_read bytes (reads.Lex (lexes.BadName place)) short at = (short, at)

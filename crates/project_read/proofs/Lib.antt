@@ -1,3 +1,4 @@
+pub mod OneProject
 pub mod Typing
 pub mod Storing
 pub mod Planning

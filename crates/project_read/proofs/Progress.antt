@@ -17,6 +17,7 @@ use Rattle.project_read.specs.Holds.{HasEntities}
 use Rattle.project_read.proofs.Typing.{typed_numbers}
 use Rattle.p21_slices.specs.Slices.{IsFront, IsSlice, IsWhole, with_items}
 use Rattle.p21_slices.proofs.Files.{more, whole}
+use Rattle.project_read.specs.declared.project.TheConstants.{MAX_PROJECT_BYTES}
 
 -- ---- entities
 
@@ -73,7 +74,7 @@ goes_on bytes at len es fs items read slice typed =
 all_of : (x : ExchangeTree) (es : List Entity) → all_typed x.items ≡ Ok (map entity_of es) → all_typed (with_items x []).items ≡ Ok (map entity_of es)
 all_of x es typed = ap all_typed (append-nil x.items) ∙ typed
 
-pub finished : (bytes : List ℕ) (end : ℕ) (es : List Entity) → length bytes ≤ 16777216 → Read bytes end es → IsSlice (drop end bytes) [] spell_last → length es ≤ 200000 → IsDistinct nat_eq (numbers_of es) → HasEntities bytes es
+pub finished : (bytes : List ℕ) (end : ℕ) (es : List Entity) → length bytes ≤ MAX_PROJECT_BYTES → Read bytes end es → IsSlice (drop end bytes) [] spell_last → length es ≤ 200000 → IsDistinct nat_eq (numbers_of es) → HasEntities bytes es
 finished bytes end es short read last few distinct =
     let x = with_items read.exchange [] in
     let typed : all_typed x.items ≡ Ok (map entity_of es) = all_of read.exchange es read.typed in

@@ -8,7 +8,7 @@ ghost use Rattle.project_read.specs.Reads.{Reads, ReadsStore};
 
 use crate::entities::store_of;
 use crate::plan::plan_of;
-use crate::project::Project;
+use crate::project::{MAX_PROJECT_BYTES, Project};
 use crate::reason::ProjectErr;
 use crate::slices::entities_in;
 use crate::steps::steps_of;
@@ -36,7 +36,7 @@ fn store_from(alloc: Global, entities: Vec<Entity>) -> Result<Store, ProjectErr>
 
 /// The store of a text that is read as a whole, or why there is none.
 fn store_whole(alloc: Global, bytes: &[u8]) -> Result<Store, ProjectErr>
-    requires { length bytes.now ≤ 16777216 }
+    requires { length bytes.now ≤ MAX_PROJECT_BYTES }
     ensures { ReadsStore bytes.now result }
 {
     let exchange = read(alloc, bytes)?;
@@ -45,7 +45,7 @@ fn store_whole(alloc: Global, bytes: &[u8]) -> Result<Store, ProjectErr>
 
 /// The store of a text: read slice by slice, and where it isn't read so, as a whole.
 fn store_in(alloc: Global, bytes: &[u8]) -> Result<Store, ProjectErr>
-    requires { length bytes.now ≤ 16777216 }
+    requires { length bytes.now ≤ MAX_PROJECT_BYTES }
     ensures { ReadsStore bytes.now result }
 {
     match entities_in(alloc, bytes)? {
@@ -54,13 +54,13 @@ fn store_in(alloc: Global, bytes: &[u8]) -> Result<Store, ProjectErr>
     }
 }
 
-/// The project in the bytes of a file, of at most 16,777,216: they are clear text (ISO 10303-21) of one exchange, its instances are
+/// The project in the bytes of a file, of at most `MAX_PROJECT_BYTES`: they are clear text (ISO 10303-21) of one exchange, its instances are
 /// entities (ISO 14649-10 and ISO 14649-11, by this profile's table), and these are a project whose main workplan can be run.
 ///
 /// # Errors
 /// The first reason why the bytes hold none, in the order of `ProjectReason`, but never `TooLong` or `NoStep`; or want of memory.
 pub fn project_in(alloc: Global, bytes: &[u8]) -> Result<Project, ProjectErr>
-    requires { length bytes.now ≤ 16777216 }
+    requires { length bytes.now ≤ MAX_PROJECT_BYTES }
     ensures { Reads bytes.now result }
 {
     let store = store_in(alloc, bytes)?;

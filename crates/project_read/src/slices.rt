@@ -8,6 +8,7 @@ ghost use Rattle.project_store.specs.Entities.{numbers_of};
 ghost use Rattle.project_read.specs.Typing.{all_typed};
 ghost use Rattle.project_read.specs.Holds.{HasEntities};
 
+use crate::project::MAX_PROJECT_BYTES;
 use entity_read::{TypeErr, typed};
 use entity_types::Entity;
 use nc_base::{NoMemory, Number, are_distinct};
@@ -47,7 +48,7 @@ fn numbers_of(alloc: Global, entities: &[Entity]) -> Result<Vec<Number>, NoMemor
 /// The entities of a text, if it is a file whose instances all are entities. Anything else is for the reader of whole files, which says
 /// why it is none.
 pub fn entities_in(alloc: Global, bytes: &[u8]) -> Result<Option<Vec<Entity>>, NoMemory>
-    requires { length bytes.now ≤ 16777216 }
+    requires { length bytes.now ≤ MAX_PROJECT_BYTES }
     ensures found { IfOk result (λ r. IfSome r (λ v. HasEntities bytes.now v.items)) }
     ensures distinct { IfOk result (λ r. IfSome r (λ v. IsDistinct nat_eq (numbers_of v.items))) }
 {
