@@ -1,12 +1,11 @@
 -- The tokens of two slices are those of both together.
-use Rattle.std.proofs.Common.{◌≡◌, ℕ, ◌+◌, ◌<◌, ◌≤◌, Bool, true, false, ◌&&◌, ◌||◌, ◌==◌, List, [], ◌∷◌, ◌++◌, length, map, refl, sym, ap, subst, ◌∙◌, append_assoc, arith}
+use Rattle.std.proofs.Common.{◌≡◌, ℕ, ◌+◌, ◌<◌, Bool, true, false, ◌&&◌, ◌==◌, List, [], ◌∷◌, ◌++◌, length, map, refl, sym, ap, subst, ◌∙◌, append_assoc, arith}
 use Rattle.std.specs.List.{concat, AllByRecursion}
 use Rattle.std.proofs.lemmas.List.{length-append}
 use Rattle.p21_lex.specs.declared.token.TokenKind.{TokenKind}
 use Rattle.p21_lex.specs.declared.token.TokenKind.TheVariants.{Word, UserWord, Name, Int, Real, Text, Enumeration, Binary, Open, Close, Comma, Semicolon, Equals, Dollar, Star}
 use Rattle.p21_lex.specs.declared.token.Token.{Token}
-use Rattle.p21_lex.specs.Class.{is_digit, is_sign}
-use Rattle.p21_lex.specs.Reading.{IsGap, Spells, Stops, Reads, begins_int, begins_exponent}
+use Rattle.p21_lex.specs.Reading.{IsGap, Stops, Reads, begins_int, begins_exponent}
 use Rattle.p21_lex.proofs.Whole.{spelled_some}
 use Rattle.p21_join.specs.Join.{EndsInSemicolon, LastIsSemicolon, moved}
 

@@ -1,22 +1,20 @@
 -- The front of a file with a slice behind it.
-use Rattle.std.proofs.Common.{◌≡◌, ℕ, ◌+◌, ◌<◌, ◌≤◌, max, nat_eq, Bool, false, List, [], ◌∷◌, ◌++◌, length, map, refl, sym, ap, subst, ◌∙◌, append_assoc, arith}
+use Rattle.std.proofs.Common.{◌≡◌, ℕ, ◌≤◌, nat_eq, List, [], ◌∷◌, ◌++◌, length, map, refl, sym, ap, ◌∙◌, arith}
 use Rattle.std.specs.List.{AllByRecursion, IsDistinct}
-use Rattle.std.proofs.lemmas.List.{append-nil}
 use Rattle.p21_lex.specs.declared.token.Token.{Token}
-use Rattle.p21_lex.specs.Reading.{Reads, IsToken}
 use Rattle.p21_parse.specs.Tree.{PartTree, InstanceTree, ExchangeTree}
-use Rattle.p21_parse.specs.Symbol.{Symbol, keyword, semicolon, symbols}
+use Rattle.p21_parse.specs.Symbol.{Symbol, semicolon, symbols}
 use Rattle.p21_parse.specs.Spell.{spell_all, spell_instance, spell_entry, spell_file}
 use Rattle.p21_parse.specs.Grammar.{IsInstance, IsExchange}
-use Rattle.p21_parse.specs.Nesting.{greatest, part_nesting, instance_nesting, exchange_nesting}
+use Rattle.p21_parse.specs.Nesting.{greatest, instance_nesting, exchange_nesting}
 use Rattle.p21_parse.specs.Machine.{iso, header, endsec, data_word}
 use Rattle.p21_parse.specs.Source.{spell_start, spell_last}
-use Rattle.p21_parse.specs.Allowed.{own_number_of, IsAllowed}
+use Rattle.p21_parse.specs.Allowed.{own_number_of}
 use Rattle.p21_parse.specs.Text.{IsText}
 use Rattle.p21_parse.proofs.Appends.{longer_part, longer_instances}
 use Rattle.p21_join.specs.Join.{EndsInSemicolon, LastIsSemicolon, moved}
 use Rattle.p21_join.proofs.Joins.{joined}
-use Rattle.p21_slices.specs.Slices.{IsFront, IsSlice, EndsWell, with_items}
+use Rattle.p21_slices.specs.Slices.{IsFront, IsSlice, with_items}
 use Rattle.p21_slices.proofs.Symbols.{symbols_join, inside_join}
 
 -- ---- what is spelled
@@ -86,8 +84,8 @@ more front slice x items f ends s last =
     let ts = f.well.tokens in
     let us = s.tokens in
     let together : symbols (front ++ slice) (ts ++ map (moved (length front)) us) ≡ spell_start x.head (spell_all spell_instance (x.items ++ items) []) =
-        symbols_join front slice ts us f.inside ∙ ap (λ (ss : List Symbol). ss ++ symbols slice us) f.spells ∙ ap (λ (ss : List Symbol). spell_start x.head (spell_all spell_instance x.items []) ++ ss) s.spells
-        ∙ start_more x.head x.items items [] in
+    symbols_join front slice ts us f.inside ∙ ap (λ (ss : List Symbol). ss ++ symbols slice us) f.spells ∙ ap (λ (ss : List Symbol). spell_start x.head (spell_all spell_instance x.items []) ++ ss) s.spells
+    ∙ start_more x.head x.items items [] in
     record {
       well = record {
         tokens = ts ++ map (moved (length front)) us;
@@ -107,8 +105,8 @@ whole front slice x items f s few distinct =
     let ts = f.well.tokens in
     let us = s.tokens in
     let together : symbols (front ++ slice) (ts ++ map (moved (length front)) us) ≡ spell_file (with_items x items) =
-        symbols_join front slice ts us f.inside ∙ ap (λ (ss : List Symbol). ss ++ symbols slice us) f.spells ∙ ap (λ (ss : List Symbol). spell_start x.head (spell_all spell_instance x.items []) ++ ss) s.spells
-        ∙ start_more x.head x.items items (spell_last []) in
+    symbols_join front slice ts us f.inside ∙ ap (λ (ss : List Symbol). ss ++ symbols slice us) f.spells ∙ ap (λ (ss : List Symbol). spell_start x.head (spell_all spell_instance x.items []) ++ ss) s.spells
+    ∙ start_more x.head x.items items (spell_last []) in
     record {
       tokens = ts ++ map (moved (length front)) us;
       reads = joined front slice ts us f.well.ends f.well.last f.well.reads s.reads;

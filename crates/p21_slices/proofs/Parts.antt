@@ -1,5 +1,5 @@
 -- From what the calls below answer to the parts of a file.
-use Rattle.std.proofs.Common.{◌≡◌, ℕ, zero, suc, ◌+◌, ◌<◌, ◌≤◌, List, [], ◌∷◌, ◌++◌, length, map, drop, Ok, refl, sym, ap, subst, ◌∙◌, arith}
+use Rattle.std.proofs.Common.{◌≡◌, ℕ, List, [], ◌∷◌, ◌++◌, length, map, drop, Ok, refl, sym, ap, subst, ◌∙◌, arith}
 use Rattle.std.specs.List.{AllByRecursion}
 use Rattle.std.proofs.lemmas.List.{length-append, length-map}
 use Rattle.std.proofs.Math.Seq.{drop-length}
@@ -16,7 +16,7 @@ use Rattle.p21_parse.specs.Text.{IsText}
 use Rattle.p21_parse.proofs.Appends.{longer_instances}
 use Rattle.p21_join.specs.Join.{EndsInSemicolon, LastIsSemicolon, moved}
 use Rattle.p21_join.proofs.Joins.{joined}
-use Rattle.p21_slices.specs.Slices.{IsFront, IsSlice, IsWhole, EndsWell}
+use Rattle.p21_slices.specs.Slices.{IsFront, IsSlice, IsWhole}
 use Rattle.p21_slices.proofs.Symbols.{symbols_join}
 use Rattle.p21_slices.proofs.Files.{longer_start}
 
@@ -57,7 +57,7 @@ split : (x : ExchangeTree) (front end : List Symbol) → length end ≡ 4 → fr
 split x front end four e =
     let start : List Symbol = spell_start x.head (spell_all spell_instance x.items []) in
     let apart : spell_start x.head (spell_all spell_instance x.items (spell_last [])) ≡ start ++ spell_last [] =
-        ap (spell_start x.head) (longer_instances x.items [] (spell_last [])) ∙ longer_start x.head (spell_all spell_instance x.items []) (spell_last []) in
+    ap (spell_start x.head) (longer_instances x.items [] (spell_last [])) ∙ longer_start x.head (spell_all spell_instance x.items []) (spell_last []) in
     let whole : front ++ end ≡ start ++ spell_last [] = e ∙ apart in
     let last : length (spell_last []) ≡ 4 = refl in
     halves front start end (spell_last []) (omega (arith, ap length whole, length-append front end, length-append start (spell_last []), four, last)) whole
@@ -73,7 +73,7 @@ spelled : (front end : List ℕ) (ts us : List Token) (x : ExchangeTree) → tok
 spelled front end ts us x first inside ends so last four text =
     let same = both front end ts us text.tokens first last ends so text.reads in
     let together : symbols front ts ++ symbols end us ≡ spell_start x.head (spell_all spell_instance x.items (spell_last [])) =
-        sym (symbols_join front end ts us inside) ∙ ap (symbols (front ++ end)) (sym same) ∙ text.spells in
+    sym (symbols_join front end ts us inside) ∙ ap (symbols (front ++ end)) (sym same) ∙ text.spells in
     split x (symbols front ts) (symbols end us) (length-map us (symbol_of end) ∙ four) together
 
 pub begins : (front end text : List ℕ) (ts us : List Token) (x : ExchangeTree) → tokens_of front ≡ Ok ts → AllByRecursion (IsToken front) ts → EndsInSemicolon front → LastIsSemicolon ts → tokens_of end ≡ Ok us → length us ≡ 4

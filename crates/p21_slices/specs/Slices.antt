@@ -1,5 +1,5 @@
 -- A file in slices: its front with the header, slices of whole instances, and its end.
-use Rattle.std.specs.Prelude.{◌≡◌, ◌≤◌, ℕ, List, [], ◌∷◌, ◌++◌}
+use Rattle.std.specs.Prelude.{◌≡◌, ◌≤◌, ℕ, List, [], ◌++◌}
 use Rattle.std.specs.List.{AllByRecursion}
 use Rattle.p21_lex.specs.declared.token.Token.{Token}
 use Rattle.p21_lex.specs.Reading.{Reads, IsToken}

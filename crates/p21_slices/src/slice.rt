@@ -116,10 +116,7 @@ fn instances_end(found: &[Token]) -> Option<u32> {
 
 /// Whole instances at the front of a text that goes on from there, and how many bytes they have: a slice, or what stands before the end of
 /// the file in it.
-pub fn next_slice(
-    alloc: Global,
-    bytes: &[u8],
-) -> Result<Option<(InstanceList, usize)>, NoMemory>
+pub fn next_slice(alloc: Global, bytes: &[u8]) -> Result<Option<(InstanceList, usize)>, NoMemory>
     requires { length bytes.now ≤ 268435456 }
     ensures whole { IfOk result (λ r. IfSome r (λ slice. IsWhole (take slice.1 bytes.now) (map instance_of slice.0))) }
     ensures within { IfOk result (λ r. IfSome r (λ slice. slice.1 ≤ length bytes.now)) }

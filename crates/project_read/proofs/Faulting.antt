@@ -1,9 +1,11 @@
 -- The steps of workingsteps in a row, or the least that has a fault.
-use Rattle.std.proofs.Common.{◌≡◌, ℕ, zero, suc, ◌+◌, ◌<◌, ◌≤◌, Bool, true, false, List, [], ◌∷◌, ◌++◌, length, take, get_or, Option, Some, None, Ok, Err, refl, sym, ap, subst, ◌∙◌, add-one, arith, inl, inr}
+use Rattle.std.proofs.Common.{◌≡◌, ℕ, zero, suc, ◌+◌, ◌<◌, ◌≤◌, Bool, true, false, List, [], ◌∷◌, ◌++◌, length, take, get_or, Option, Some, None, Ok, Err, refl, sym, ap, subst, ◌∙◌, add-one, arith, ⊎_elim}
 use Rattle.std.specs.Prelude.{◌&&◌, ◌||◌, ◌==◌, ◌⊎◌, nat_le, is_ok}
 use Rattle.std.specs.List.{list_all}
 use Rattle.std.proofs.Math.Seq.{take-suc}
-use Rattle.std.proofs.lemmas.Bool.{eqb-true, eq-eqb}
+use Rattle.std.specs.List.Sorted.{IsNonDecreasing, IsPermutation}
+use Rattle.std.proofs.lemmas.Bool.{eqb-true, eq-eqb, cases_order}
+use Rattle.std.proofs.lemmas.List.Sorted.{list_any-IsPermutation}
 use Rattle.std.proofs.lemmas.Bool.Decides.{nat_tests}
 use Rattle.std.proofs.lemmas.List.{take_all, map-append}
 use Rattle.entity_types.specs.declared.entity.Entity.{Entity}
@@ -13,11 +15,10 @@ use Rattle.path_blocks.specs.declared.step.Step.{Step}
 use Rattle.step_def.specs.declared.fault.DefFault.{DefFault}
 use Rattle.step_def.specs.DefOf.{def_of}
 use Rattle.project_read.specs.Faults.{has_def, is_among, IsLeastFault}
-use Rattle.project_read.specs.Reads.{HaveDefs, step_numbers, lesser}
-
-tested : (b : Bool) → (b ≡ true) ⊎ (b ≡ false)
-tested true = inl refl
-tested false = inr refl
+use Rattle.project_read.specs.Reads.{HaveDefs, step_numbers, AreSteps, IsLeastFirst}
+use Rattle.project_read.specs.declared.reason.ProjectReason.TheVariants as reasons
+use Rattle.project_read.specs.declared.reason.ProjectErr.{ProjectErr}
+use Rattle.project_read.specs.declared.reason.ProjectErr.TheVariants.{Refused, NoMemory}
 
 all_push : (p : ℕ → Bool) (xs : List ℕ) (x : ℕ) → list_all p xs ≡ true → p x ≡ true → list_all p (xs ++ x ∷ []) ≡ true
 all_push p [] x all e = rw e refl
@@ -27,37 +28,8 @@ all_push p (y ∷ xs) x all e = by (p y) (list_all p xs) all (all_push p xs x)
     by true b all f = f all e
     by false b all f = absurd (cc)
 
--- what is among more numbers is among those before, or the last
-among_more : (ns : List ℕ) (x m : ℕ) → is_among (ns ++ x ∷ []) m ≡ true → (is_among ns m ≡ true) ⊎ (x ≡ m)
-among_more [] x m e = by (x == m) e (eqb-true x m)
-  where
-    by : (b : Bool) → (b || false) ≡ true → (b ≡ true → x ≡ m) → (false ≡ true) ⊎ (x ≡ m)
-    by true e f = inr (f refl)
-    by false e f = absurd (cc)
-among_more (y ∷ ns) x m e = by (y == m) e (among_more ns x m)
-  where
-    by : (b : Bool) → (b || is_among (ns ++ x ∷ []) m) ≡ true → (is_among (ns ++ x ∷ []) m ≡ true → (is_among ns m ≡ true) ⊎ (x ≡ m)) → ((b || is_among ns m) ≡ true) ⊎ (x ≡ m)
-    by true e f = inl refl
-    by false e f = f e
-
-among_last : (ns : List ℕ) (x : ℕ) → is_among (ns ++ x ∷ []) x ≡ true
-among_last [] x = rw (eq-eqb x x refl) refl
-among_last (y ∷ ns) x = by (y == x) (among_last ns x)
-  where
-    by : (b : Bool) → is_among (ns ++ x ∷ []) x ≡ true → (b || is_among (ns ++ x ∷ []) x) ≡ true
-    by true e = refl
-    by false e = e
-
-among_front : (ns : List ℕ) (x m : ℕ) → is_among ns m ≡ true → is_among (ns ++ x ∷ []) m ≡ true
-among_front [] x m e = absurd (cc)
-among_front (y ∷ ns) x m e = by (y == m) e (among_front ns x m)
-  where
-    by : (b : Bool) → (b || is_among ns m) ≡ true → (is_among ns m ≡ true → is_among (ns ++ x ∷ []) m ≡ true) → (b || is_among (ns ++ x ∷ []) m) ≡ true
-    by true e f = refl
-    by false e f = f e
-
 -- each of the numbers passes where all do
-each : (p : ℕ → Bool) (ns : List ℕ) (m : ℕ) → list_all p ns ≡ true → is_among ns m ≡ true → p m ≡ true
+pub each : (p : ℕ → Bool) (ns : List ℕ) (m : ℕ) → list_all p ns ≡ true → is_among ns m ≡ true → p m ≡ true
 each p [] m all e = absurd (cc)
 each p (y ∷ ns) m all e = by (p y) (y == m) refl (eqb-true y m) all e (each p ns m)
   where
@@ -70,67 +42,116 @@ defs_push : (entities : List Entity) (steps : List Step) (s : Step) → HaveDefs
 defs_push entities [] s have e = (e, tt)
 defs_push entities (t ∷ steps) s have e = (have.0, defs_push entities steps s have.1 e)
 
--- what was found of these workingsteps: the least fault, or all their steps
-abbrev pub SoFar : List Entity → List ℕ → Option (ℕ × DefFault) → List Step → Type 0
-SoFar entities ns None steps = (step_numbers steps ≡ ns) × (list_all (has_def entities) ns ≡ true) × HaveDefs entities steps
-SoFar entities ns (Some faulty) steps = IsLeastFault entities ns faulty.0 faulty.1
-
-defined : (entities : List Entity) (n : ℕ) (def : Def) → def_of (entity_at entities) n ≡ Ok def → has_def entities n ≡ true
-defined entities n def e = ap is_ok e
+-- what was found of these workingsteps: all their steps
+pub record SoFar (entities : List Entity) (ns : List ℕ) (steps : List Step) : Type 0 where
+  pub numbers : step_numbers steps ≡ ns
+  pub defined : list_all (has_def entities) ns ≡ true
+  pub have : HaveDefs entities steps
 
 -- one workingstep more has a definition
-one_step : (entities : List Entity) (ns : List ℕ) (least : Option (ℕ × DefFault)) (steps : List Step) (s : Step) → def_of (entity_at entities) s.number ≡ Ok s.def → SoFar entities ns least steps
-    → SoFar entities (ns ++ s.number ∷ []) least (steps ++ s ∷ [])
-one_step entities ns None steps s e so_far =
-    (map-append (λ (t : Step). t.number) steps (s ∷ []) ∙ ap (λ (ms : List ℕ). ms ++ s.number ∷ []) so_far.0, all_push (has_def entities) ns s.number so_far.1 (defined entities s.number s.def e), defs_push entities steps s so_far.2 e)
-one_step entities ns (Some faulty) steps s e so_far = record {
-  among = among_front ns s.number faulty.0 so_far.among;
-  faulty = so_far.faulty;
-  least = λ m among lt. elim (among_more ns s.number m among) [ inl old ↦ so_far.least m old lt | inr new ↦ ap (has_def entities) (sym new) ∙ defined entities s.number s.def e ];
+one_step : (entities : List Entity) (ns : List ℕ) (steps : List Step) (s : Step) → def_of (entity_at entities) s.number ≡ Ok s.def → SoFar entities ns steps → SoFar entities (ns ++ s.number ∷ []) (steps ++ s ∷ [])
+one_step entities ns steps s e so_far = record {
+  numbers = map-append (λ (t : Step). t.number) steps (s ∷ []) ∙ ap (λ (ms : List ℕ). ms ++ s.number ∷ []) so_far.numbers;
+  defined = all_push (has_def entities) ns s.number so_far.defined (ap is_ok e);
+  have = defs_push entities steps s so_far.have e;
 }
-
--- one workingstep more has a fault
-one_fault : (entities : List Entity) (ns : List ℕ) (least : Option (ℕ × DefFault)) (steps : List Step) (n : ℕ) (fault : DefFault) → def_of (entity_at entities) n ≡ Err fault → SoFar entities ns least steps
-    → SoFar entities (ns ++ n ∷ []) (Some (lesser least (n, fault))) steps
-one_fault entities ns None steps n fault e so_far = record {
-  among = among_last ns n;
-  faulty = e;
-  least = λ m among lt. elim (among_more ns n m among) [ inl old ↦ each (has_def entities) ns m so_far.1 old | inr new ↦ absurd (omega arith) ];
-}
-one_fault entities ns (Some faulty) steps n fault e so_far = by (nat_le faulty.0 n) refl
-  where
-    by : (b : Bool) → nat_le faulty.0 n ≡ b → SoFar entities (ns ++ n ∷ []) (Some (lesser (Some faulty) (n, fault))) steps
-    by true h =
-        let le : faulty.0 ≤ n = grind (arith, nat_tests) in
-        rw h (record {
-          among = among_front ns n faulty.0 so_far.among;
-          faulty = so_far.faulty;
-          least = λ m among lt. elim (among_more ns n m among) [ inl old ↦ so_far.least m old lt | inr new ↦ absurd (omega arith) ];
-        })
-    by false h =
-        let gt : n < faulty.0 = grind (arith, nat_tests) in
-        rw h (record {
-          among = among_last ns n;
-          faulty = e;
-          least = λ m among lt. elim (among_more ns n m among) [ inl old ↦ so_far.least m old (omega arith) | inr new ↦ absurd (omega arith) ];
-        })
 
 taken : (numbers : List ℕ) (i : ℕ) → i < length numbers → take (i + 1) numbers ≡ take i numbers ++ (get_or numbers i 0 ∷ [])
 taken numbers i lt = rw add-one (take-suc numbers i 0 lt)
 
-pub with_step : (entities : List Entity) (numbers : List ℕ) (i : ℕ) (least : Option (ℕ × DefFault)) (steps : List Step) (s : Step) → i < length numbers → s.number ≡ get_or numbers i 0 → def_of (entity_at entities) s.number ≡ Ok s.def
-    → SoFar entities (take i numbers) least steps → SoFar entities (take (i + 1) numbers) least (steps ++ s ∷ [])
-with_step entities numbers i least steps s lt is e so_far =
-    subst (λ (ns : List ℕ). SoFar entities ns least (steps ++ s ∷ [])) (ap (λ (n : ℕ). take i numbers ++ (n ∷ [])) is ∙ sym (taken numbers i lt)) (one_step entities (take i numbers) least steps s e so_far)
+pub with_step : (entities : List Entity) (numbers : List ℕ) (i : ℕ) (steps : List Step) (s : Step) → i < length numbers → s.number ≡ get_or numbers i 0 → def_of (entity_at entities) s.number ≡ Ok s.def
+    → SoFar entities (take i numbers) steps → SoFar entities (take (i + 1) numbers) (steps ++ s ∷ [])
+with_step entities numbers i steps s lt is e so_far =
+    subst (λ (ns : List ℕ). SoFar entities ns (steps ++ s ∷ [])) (ap (λ (n : ℕ). take i numbers ++ (n ∷ [])) is ∙ sym (taken numbers i lt)) (one_step entities (take i numbers) steps s e so_far)
 
-pub with_fault : (entities : List Entity) (numbers : List ℕ) (i : ℕ) (least : Option (ℕ × DefFault)) (steps : List Step) (fault : DefFault) → i < length numbers → def_of (entity_at entities) (get_or numbers i 0) ≡ Err fault
-    → SoFar entities (take i numbers) least steps → SoFar entities (take (i + 1) numbers) (Some (lesser least (get_or numbers i 0, fault))) steps
-with_fault entities numbers i least steps fault lt e so_far =
-    subst (λ (ns : List ℕ). SoFar entities ns (Some (lesser least (get_or numbers i 0, fault))) steps) (sym (taken numbers i lt)) (one_fault entities (take i numbers) least steps (get_or numbers i 0) fault e so_far)
+-- each number of a list is among its numbers
+among_at : (ns : List ℕ) (i : ℕ) → i < length ns → is_among ns (get_or ns i 0) ≡ true
+among_at [] i lt = absurd (omega arith)
+among_at (n ∷ ns) zero lt = rw (eq-eqb n n refl) refl
+among_at (n ∷ ns) (suc i) lt = by (n == get_or ns i 0) (among_at ns i (omega arith))
+  where
+    by : (b : Bool) → is_among ns (get_or ns i 0) ≡ true → (b || is_among ns (get_or ns i 0)) ≡ true
+    by true e = refl
+    by false e = e
+
+-- the first that has a fault is the least
+pub with_fault : (entities : List Entity) (numbers : List ℕ) (i : ℕ) (steps : List Step) (fault : DefFault) → i < length numbers → def_of (entity_at entities) (get_or numbers i 0) ≡ Err fault
+    → IsLeastFirst entities numbers → SoFar entities (take i numbers) steps → IsLeastFault entities numbers (get_or numbers i 0) fault
+with_fault entities numbers i steps fault lt e least so_far =
+    record { among = among_at numbers i lt; faulty = e; least = least i lt so_far.defined (ap is_ok e) }
 
 -- at the loop's end all workingsteps were looked at
-pub at_end : (entities : List Entity) (numbers : List ℕ) (i : ℕ) (least : Option (ℕ × DefFault)) (steps : List Step) → length numbers ≤ i → SoFar entities (take i numbers) least steps → SoFar entities numbers least steps
-at_end entities numbers i least steps le so_far = subst (λ (ns : List ℕ). SoFar entities ns least steps) (take_all i numbers le) so_far
+pub at_end : (entities : List Entity) (numbers : List ℕ) (i : ℕ) (steps : List Step) → length numbers ≤ i → SoFar entities (take i numbers) steps → SoFar entities numbers steps
+at_end entities numbers i steps le so_far = subst (λ (ns : List ℕ). SoFar entities ns steps) (take_all i numbers le) so_far
+
+-- ---- numbers in order
+
+-- where a number stands among others
+place_of : (ns : List ℕ) (m : ℕ) → is_among ns m ≡ true → (k : ℕ) × (k < length ns) × (get_or ns k 0 ≡ m)
+place_of [] m e = absurd (cc)
+place_of (n ∷ ns) m e = by (n == m) e (eqb-true n m) (place_of ns m)
+  where
+    by : (b : Bool) → (b || is_among ns m) ≡ true → (b ≡ true → n ≡ m) → (is_among ns m ≡ true → (k : ℕ) × (k < length ns) × (get_or ns k 0 ≡ m)) → (k : ℕ) × (k < length (n ∷ ns)) × (get_or (n ∷ ns) k 0 ≡ m)
+    by true e same more = (0, omega arith, same refl)
+    by false e same more = let rest = more e in (suc rest.0, omega (arith, rest.1), rest.2)
+
+get_taken : (ns : List ℕ) (i k : ℕ) → k < i → k < length ns → get_or (take i ns) k 0 ≡ get_or ns k 0
+get_taken ns zero k lt within = absurd (omega arith)
+get_taken [] (suc i) k lt within = absurd (omega arith)
+get_taken (n ∷ ns) (suc i) zero lt within = refl
+get_taken (n ∷ ns) (suc i) (suc k) lt within = get_taken ns i k (omega arith) (omega arith)
+
+short : (ns : List ℕ) (i k : ℕ) → k < i → k < length ns → k < length (take i ns)
+short ns zero k lt within = absurd (omega arith)
+short [] (suc i) k lt within = absurd (omega arith)
+short (n ∷ ns) (suc i) zero lt within = omega arith
+short (n ∷ ns) (suc i) (suc k) lt within = omega (arith, short ns i k (omega arith) (omega arith))
+
+-- of numbers in order the first without a definition is the least
+pub ordered_first : (entities : List Entity) (numbers : List ℕ) → IsNonDecreasing numbers → IsLeastFirst entities numbers
+ordered_first entities numbers ordered i lt before faulty m among less =
+    let at = place_of numbers m among in
+    let earlier : at.0 < i = ⊎_elim (λ same. absurd (omega (arith, ordered i at.0 0 (omega (arith, same)) at.1, at.2))) (λ r. ⊎_elim (λ l. l) (λ l. absurd (omega (arith, ordered i at.0 0 (omega (arith, l)) at.1, at.2))) r) (cases_order at.0 i) in
+    let there : is_among (take i numbers) m ≡ true =
+        subst (λ (n : ℕ). is_among (take i numbers) n ≡ true) (get_taken numbers i at.0 earlier at.1 ∙ at.2) (among_at (take i numbers) at.0 (short numbers i at.0 earlier at.1)) in
+    each (has_def entities) (take i numbers) m before there
+
+-- where all have one, there is no first without
+pub all_first : (entities : List Entity) (numbers : List ℕ) → list_all (has_def entities) numbers ≡ true → IsLeastFirst entities numbers
+all_first entities numbers all i lt before faulty m among less = each (has_def entities) numbers m all among
+
+-- ---- the same numbers in another order
+
+pub all_from : (p : ℕ → Bool) (ns : List ℕ) → ((m : ℕ) → is_among ns m ≡ true → p m ≡ true) → list_all p ns ≡ true
+all_from p [] passes = refl
+all_from p (n ∷ ns) passes =
+    let first : p n ≡ true = passes n (rw (eq-eqb n n refl) refl) in
+    rw first (all_from p ns (λ m among. passes m (by (n == m) m among)))
+  where
+    by : (b : Bool) (m : ℕ) → is_among ns m ≡ true → (b || is_among ns m) ≡ true
+    by true m e = refl
+    by false m e = e
+
+same_among : (ns ms : List ℕ) → IsPermutation ns ms → (m : ℕ) → is_among ns m ≡ is_among ms m
+same_among ns ms moved m = list_any-IsPermutation (λ (k : ℕ). k == m) ns ms moved
+
+pub all_moved : (p : ℕ → Bool) (ns ms : List ℕ) → IsPermutation ns ms → list_all p ns ≡ true → list_all p ms ≡ true
+all_moved p ns ms moved all = all_from p ms (λ m among. each p ns m all (same_among ns ms moved m ∙ among))
+
+-- the least fault is the same in any order
+pub fault_moved : (entities : List Entity) (ns ms : List ℕ) (e : ProjectErr) → IsPermutation ns ms → AreSteps entities ms (Err e) → AreSteps entities ns (Err e)
+fault_moved entities ns ms (Refused (reasons.Definition n fault)) moved least = record {
+  among = same_among ns ms moved n ∙ least.among;
+  faulty = least.faulty;
+  least = λ m among less. least.least m (sym (same_among ns ms moved m) ∙ among) less;
+}
+fault_moved entities ns ms (Refused reasons.TooLong) moved said = absurd said
+fault_moved entities ns ms (Refused (reasons.Read fault)) moved said = absurd said
+fault_moved entities ns ms (Refused (reasons.Attribute fault)) moved said = absurd said
+fault_moved entities ns ms (Refused (reasons.Store fault)) moved said = absurd said
+fault_moved entities ns ms (Refused reasons.NotBuilt) moved said = absurd said
+fault_moved entities ns ms (Refused (reasons.NoStep n)) moved said = absurd said
+fault_moved entities ns ms NoMemory moved said = tt
 
 both : (a b : Bool) → (a && b) ≡ true → (a ≡ true) × (b ≡ true)
 both true b e = (refl, e)

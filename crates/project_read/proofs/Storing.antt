@@ -37,3 +37,9 @@ store_stop bytes x es stores.NoMemory has typed said = tt
 
 pub stored : (bytes : List ℕ) (x : ExchangeTree) (es store : List Entity) → HasExchange bytes x → all_typed x.items ≡ Ok (map entity_of es) → Builds es (Ok store) → HasStore bytes store
 stored bytes x es store has typed built = subst (λ (fs : List Entity). HasStore bytes fs) (sym built.1) (record { has = entities bytes x es has typed; built = built.0 })
+
+pub built_stop : (bytes : List ℕ) (es : List Entity) (f : StoreErr) → HasEntities bytes es → Builds es (Err f) → ReadsStore bytes (Err (from_store f))
+built_stop bytes es f has said = store_stop bytes has.exchange es f has.has has.typed said
+
+pub built : (bytes : List ℕ) (es store : List Entity) → HasEntities bytes es → Builds es (Ok store) → HasStore bytes store
+built bytes es store has said = stored bytes has.exchange es store has.has has.typed said

@@ -9,6 +9,7 @@ use Rattle.project_store.specs.Build.{fault_of}
 use Rattle.project_read.specs.Typing.{all_typed}
 use Rattle.project_read.specs.Plan.{IsPlan}
 use Rattle.project_read.specs.Faults.{has_def}
+use Rattle.project_read.specs.declared.project.TheConstants.{MAX_PROJECT_BYTES}
 
 -- a project: its entities in file order, the number of its main workplan, and the workingsteps that are the plan's elements
 pub record Project : Type 0 where
@@ -18,7 +19,7 @@ pub record Project : Type 0 where
 
 -- the bytes are a file of at most so many bytes that spells the exchange
 pub record HasExchange (bytes : List ℕ) (x : ExchangeTree) : Type 0 where
-  pub short : length bytes ≤ 16777216
+  pub short : length bytes ≤ MAX_PROJECT_BYTES
   pub spelled : IsText bytes x
 
 -- its instances are these entities

@@ -1,5 +1,5 @@
 -- What the calls of this crate answer.
-use Rattle.std.specs.Prelude.{◌≡◌, ℕ, true, nat_le, if◌then◌else◌, List, [], ◌∷◌, map, Option, Some, None, Result, Ok, Err}
+use Rattle.std.specs.Prelude.{◌≡◌, ℕ, ◌<◌, true, false, List, [], ◌∷◌, length, take, map, slice_index, Result, Ok, Err}
 use Rattle.std.specs.Global.{Vec}
 use Rattle.std.specs.List.{list_all}
 use Rattle.p21_parse.specs.Tree.{InstanceTree}
@@ -7,7 +7,6 @@ use Rattle.p21_parse.specs.Allowed.{own_number_of}
 use Rattle.entity_types.specs.declared.entity.Entity.{Entity}
 use Rattle.entity_read.specs.Typed.{entity_of}
 use Rattle.project_store.specs.Entities.{entity_at, numbers_of}
-use Rattle.step_def.specs.declared.fault.DefFault.{DefFault}
 use Rattle.step_def.specs.DefOf.{def_of}
 use Rattle.path_blocks.specs.declared.step.Step.{Step}
 use Rattle.project_read.specs.declared.reason.ProjectReason.TheVariants.{Attribute, NotBuilt, Definition}
@@ -16,7 +15,7 @@ use Rattle.project_read.specs.declared.reason.ProjectErr.TheVariants.{Refused, N
 use Rattle.project_read.specs.declared.project.Project.{Project as Held}
 use Rattle.project_read.specs.Typing.{all_typed}
 use Rattle.project_read.specs.Plan.{IsPlan}
-use Rattle.project_read.specs.Faults.{has_def, IsLeastFault}
+use Rattle.project_read.specs.Faults.{has_def, is_among, IsLeastFault}
 use Rattle.project_read.specs.Holds.{Project, HasStore, Holds}
 use Rattle.project_read.specs.Refuses.{Refuses}
 
@@ -39,10 +38,11 @@ HasNoPlan entities (Refused NotBuilt) = (main : ℕ) (steps : List ℕ) → IsPl
 HasNoPlan entities (Refused reason) = ⊥
 HasNoPlan entities NoMemory = Unit {0}
 
--- of two workingsteps with a fault, of which there may be only the second, the one of the lesser number
-abbrev pub lesser : Option (ℕ × DefFault) → ℕ × DefFault → ℕ × DefFault
-lesser None other = other
-lesser (Some faulty) other = if nat_le faulty.0 other.0 then faulty else other
+-- of these workingsteps the first that has no definition is the least that has none
+abbrev pub IsLeastFirst : List Entity → List ℕ → Type 0
+IsLeastFirst entities numbers =
+    (i : ℕ) → i < length numbers → list_all (has_def entities) (take i numbers) ≡ true → has_def entities (slice_index numbers i) ≡ false
+    → (m : ℕ) → is_among numbers m ≡ true → m < slice_index numbers i → has_def entities m ≡ true
 
 -- the steps have these definitions
 abbrev pub HaveDefs : List Entity → List Step → Type 0

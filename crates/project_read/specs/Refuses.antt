@@ -12,13 +12,14 @@ use Rattle.project_read.specs.Typing.{all_typed}
 use Rattle.project_read.specs.Plan.{IsPlan}
 use Rattle.project_read.specs.Faults.{IsLeastFault}
 use Rattle.project_read.specs.Holds.{Project, HasExchange, HasEntities, HasStore, HasPlan}
+use Rattle.project_read.specs.declared.project.TheConstants.{MAX_PROJECT_BYTES}
 
 -- of the reasons for which bytes aren't read want of memory is none
 abbrev pub Refuses : List ℕ → ProjectReason → Type 0
-Refuses bytes TooLong = 16777216 < length bytes
+Refuses bytes TooLong = MAX_PROJECT_BYTES < length bytes
 Refuses bytes (Read reads.NoMemory) = ⊥
 Refuses bytes (Read (reads.Lex lexes.NoMemory)) = ⊥
-Refuses bytes (Read fault) = (length bytes ≤ 16777216) × IsRefusedText bytes fault
+Refuses bytes (Read fault) = (length bytes ≤ MAX_PROJECT_BYTES) × IsRefusedText bytes fault
 Refuses bytes (Attribute fault) = (x : ExchangeTree) × HasExchange bytes x × (all_typed x.items ≡ Err fault)
 Refuses bytes (Store fault) = (entities : List Entity) × HasEntities bytes entities × (fault_of entities ≡ Some fault)
 Refuses bytes NotBuilt = (entities : List Entity) × HasStore bytes entities × ((main : ℕ) (steps : List ℕ) → IsPlan entities main steps → ⊥)

@@ -1,16 +1,29 @@
 //! The project that the bytes of a file hold, or the first reason why they hold none.
+//!
+//! | module | what is in it | calls |
+//! |---|---|---|
+//! | reading | from bytes to a project | `project_in` |
+//! | project | a project that can be run | `Project` |
+//! | reason | why a project is refused | `ProjectReason`, `ProjectErr` |
+//! | laws | bytes hold one project at most, and are refused for one reason at most | `project_laws` |
+//! | slices | the entities of a file, slice after slice | |
+//! | entities | the entities of a whole exchange | |
+//! | plan | the main workplan | |
+//! | steps | the definitions of the main workplan's workingsteps | |
+//!
+//! Its tests stand in the crate definition_tests.
 #![tactic(auto)]
 
 mod entities;
+mod laws;
 mod plan;
 mod project;
 mod reading;
 mod reason;
+mod slices;
 mod steps;
 
-pub use project::Project;
+pub use laws::project_laws;
+pub use project::{MAX_PROJECT_BYTES, Project};
 pub use reading::project_in;
 pub use reason::{ProjectErr, ProjectReason};
-
-#[cfg(test)]
-mod tests;

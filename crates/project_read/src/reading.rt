@@ -2,39 +2,67 @@
 
 ghost use Rattle.std.specs.Prelude.{◌≡◌, ◌≤◌, ℕ, List, length, map, nat_eq};
 ghost use Rattle.std.specs.List.{IsDistinct};
-ghost use Rattle.p21_parse.specs.Allowed.{own_number_of};
-ghost use Rattle.p21_parse.specs.View.{exchange_of};
-ghost use Rattle.project_read.specs.Holds.{HasExchange};
-ghost use Rattle.project_read.specs.Reads.{Reads};
+ghost use Rattle.project_store.specs.Entities.{numbers_of};
+ghost use Rattle.project_read.specs.Holds.{HasEntities, HasStore};
+ghost use Rattle.project_read.specs.Reads.{Reads, ReadsStore};
 
 use crate::entities::store_of;
 use crate::plan::plan_of;
-use crate::project::Project;
+use crate::project::{MAX_PROJECT_BYTES, Project};
 use crate::reason::ProjectErr;
+use crate::slices::entities_in;
 use crate::steps::steps_of;
-use p21_parse::{Exchange, read};
+use entity_types::Entity;
+use p21_parse::read;
+use project_store::Store;
 use std::alloc::Global;
 
-/// The project that an exchange holds.
-fn project_of(alloc: Global, exchange: &Exchange) -> Result<Project, ProjectErr>
-    requires { IsDistinct nat_eq (map own_number_of (exchange_of exchange.now).items) }
-    ensures { (bytes : List ℕ) → HasExchange bytes (exchange_of exchange.now) → Reads bytes result }
+/// The project that a store holds.
+fn project_of(alloc: Global, store: Store) -> Result<Project, ProjectErr>
+    ensures { (bytes : List ℕ) → HasStore bytes store → Reads bytes result }
 {
-    let store = store_of(alloc, exchange)?;
     let (main, numbers) = plan_of(alloc, &store)?;
     let steps = steps_of(alloc, &store, numbers)?;
     Ok(Project { store, main, steps })
 }
 
-/// The project in the bytes of a file, of at most 16,777,216: they are clear text (ISO 10303-21) of one exchange, its instances are
+/// The store of a file's entities.
+fn store_from(alloc: Global, entities: Vec<Entity>) -> Result<Store, ProjectErr>
+    requires { IsDistinct nat_eq (numbers_of entities.items) }
+    ensures { (bytes : List ℕ) → HasEntities bytes entities.items → ReadsStore bytes result }
+{
+    Ok(Store::build(alloc, entities)?)
+}
+
+/// The store of a text that is read as a whole, or why there is none.
+fn store_whole(alloc: Global, bytes: &[u8]) -> Result<Store, ProjectErr>
+    requires { length bytes.now ≤ MAX_PROJECT_BYTES }
+    ensures { ReadsStore bytes.now result }
+{
+    let exchange = read(alloc, bytes)?;
+    store_of(alloc, &exchange)
+}
+
+/// The store of a text: read slice by slice, and where it isn't read so, as a whole.
+fn store_in(alloc: Global, bytes: &[u8]) -> Result<Store, ProjectErr>
+    requires { length bytes.now ≤ MAX_PROJECT_BYTES }
+    ensures { ReadsStore bytes.now result }
+{
+    match entities_in(alloc, bytes)? {
+        Some(entities) => store_from(alloc, entities),
+        None => store_whole(alloc, bytes),
+    }
+}
+
+/// The project in the bytes of a file, of at most `MAX_PROJECT_BYTES`: they are clear text (ISO 10303-21) of one exchange, its instances are
 /// entities (ISO 14649-10 and ISO 14649-11, by this profile's table), and these are a project whose main workplan can be run.
 ///
 /// # Errors
 /// The first reason why the bytes hold none, in the order of `ProjectReason`, but never `TooLong` or `NoStep`; or want of memory.
 pub fn project_in(alloc: Global, bytes: &[u8]) -> Result<Project, ProjectErr>
-    requires { length bytes.now ≤ 16777216 }
+    requires { length bytes.now ≤ MAX_PROJECT_BYTES }
     ensures { Reads bytes.now result }
 {
-    let exchange = read(alloc, bytes)?;
-    project_of(alloc, &exchange)
+    let store = store_in(alloc, bytes)?;
+    project_of(alloc, store)
 }

@@ -1,9 +1,9 @@
 //! The definitions of a workplan's workingsteps.
 
-ghost use Rattle.std.specs.Prelude.{◌≡◌, true};
-ghost use Rattle.std.specs.List.{list_all};
+ghost use Rattle.std.specs.Prelude.{◌≡◌, ◌≤◌, true, length, IsTrue};
+ghost use Rattle.std.specs.List.{AllAdjacentBelow, list_all};
 ghost use Rattle.project_read.specs.Plan.{is_workingstep};
-ghost use Rattle.project_read.specs.Reads.{AreSteps, lesser};
+ghost use Rattle.project_read.specs.Reads.{AreSteps, IsLeastFirst};
 
 use crate::reason::{ProjectErr, ProjectReason};
 use nc_base::{Number, Steps};
@@ -12,22 +12,40 @@ use project_store::Store;
 use std::alloc::Global;
 use std::marker::Brand;
 use std::sync::ledger::{Blank, Ledger};
-use step_def::{DefFault, resolve};
+use step_def::resolve;
 
-/// A workingstep and its fault.
-type Faulty = (Number, DefFault);
-
-/// Of two workingsteps with a fault, of which there may be only the second, the one of the lesser number.
-fn lesser(least: Option<Faulty>, other: Faulty) -> Faulty
-    ensures { result ≡ lesser least other }
+/// Whether no number is below the one before it.
+fn are_ordered(numbers: &[Number]) -> bool
+    ensures { IsTrue result → AllAdjacentBelow (λ x y. x ≤ y) numbers.now (length numbers.now) }
 {
-    match least {
-        Some(faulty) if faulty.0 <= other.0 => faulty,
-        _ => other,
-    }
+    numbers.windows(2).all(|pair| pair[0] <= pair[1])
 }
 
-/// The steps of these workingsteps. All definitions are looked up, so that the fault of the least is found.
+/// The steps of these workingsteps, of which the first with a fault is the least. Behind it none is looked at.
+fn steps_in_order<L: Ledger>(
+    alloc: Global,
+    store: &Store,
+    numbers: &[Number],
+    counter: &mut Steps<L>,
+) -> Result<Vec<Step>, ProjectErr>
+    requires workingsteps { list_all (is_workingstep store.now) numbers.now ≡ true }
+    requires least_first { IsLeastFirst store.now numbers.now }
+    ensures { AreSteps store.now numbers.now result }
+{
+    let mut steps = Vec::with_capacity(alloc, numbers.len())?;
+    for n in numbers {
+        match resolve(store, *n, counter) {
+            Ok(def) => steps.push(Step { number: *n, def })?,
+            Err(fault) => {
+                return Err(ProjectErr::Refused(ProjectReason::Definition(*n, fault)));
+            }
+        }
+    }
+    Ok(steps)
+}
+
+/// The steps of these workingsteps. Where they don't stand in order of number, their definitions are first looked up in that order, so that
+/// the least fault is found before anything behind it is looked at.
 fn steps_counted<L: Ledger>(
     alloc: Global,
     store: &Store,
@@ -42,18 +60,13 @@ fn steps_counted<L: Ledger>(
 {
     let (book, share) = blank.open::<L>();
     let mut counter = Steps::new(book, share);
-    let mut steps = Vec::with_capacity(alloc, numbers.len())?;
-    let mut least: Option<Faulty> = None;
-    for n in numbers {
-        match resolve(store, *n, &mut counter) {
-            Ok(def) => steps.push(Step { number: *n, def })?,
-            Err(fault) => least = Some(lesser(least, (*n, fault))),
-        }
+    if are_ordered(numbers) {
+        return steps_in_order(alloc, store, numbers, &mut counter);
     }
-    match least {
-        Some((n, fault)) => Err(ProjectErr::Refused(ProjectReason::Definition(n, fault))),
-        None => Ok(steps),
-    }
+    let mut ordered = Vec::from_slice(alloc, numbers)?;
+    ordered.sort()?;
+    steps_in_order(alloc, store, ordered.as_slice(), &mut counter)?;
+    steps_in_order(alloc, store, numbers, &mut counter)
 }
 
 /// The steps of these workingsteps with their definitions.

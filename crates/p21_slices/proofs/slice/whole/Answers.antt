@@ -1,7 +1,5 @@
-use Rattle.std.proofs.Common.{◌≡◌, List, map, length, subst, rules}
-use Rattle.p21_lex.specs.declared.token.Token.{Token}
+use Rattle.std.proofs.Common.{◌≡◌, map, length, rules}
 use Rattle.p21_parse.specs.View.{instance_of}
-use Rattle.p21_parse.specs.Following.{AreInstancesFrom}
 use Rattle.p21_join.specs.Join.{EndsInSemicolon, LastIsSemicolon}
 use Rattle.p21_slices.proofs.Parts.{is_whole}
 use Rattle.p21_slices.proofs.slice.whole.Goals as goal
