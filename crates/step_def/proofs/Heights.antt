@@ -1,7 +1,6 @@
 -- Numbers of a definition fit the machine's.
-use Rattle.std.proofs.Common.{◌≡◌, ◌∙◌, refl, Bool, true, false, ◌&&◌, ℕ, ℤ, pos, negsuc, neg_ℤ, ◌+ℤ◌, ◌-ℤ◌, ◌≤◌, int_le, IsTrue, FitsSigned, to_z, of_z, w64, arith}
+use Rattle.std.proofs.Common.{◌≡◌, refl, ◌&&◌, ℕ, ℤ, pos, neg_ℤ, ◌+ℤ◌, ◌-ℤ◌, ◌≤◌, int_le, IsTrue, FitsSigned, to_z, of_z, w64, arith}
 use Rattle.std.proofs.lemmas.Int.{ints, to_z-of_z}
-use Rattle.std.specs.Int.{is_positive}
 use Rattle.path_blocks.specs.Range.{is_within}
 use Rattle.path_blocks.specs.PathPocket.{Rectangle}
 use Rattle.step_def.specs.Faults.{is_sized}

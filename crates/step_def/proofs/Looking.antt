@@ -1,11 +1,10 @@
 -- What is looked up from a step is the same in stores that agree on what it reaches.
-use Rattle.std.specs.Prelude.{◌≡◌, ◌⊎◌, ◌<◌, ◌+◌, ℕ, ℤ, zero, suc, Bool, true, false, not, ◌==◌, if◌then◌else◌, List, [], ◌∷◌, ◌++◌, length, get_or, flat_map, Option, Some, None, option_map, option_and_then, Result, Ok, Err, Contains, IsTrue}
-use Rattle.std.proofs.Common.{refl, sym, ap, subst, ◌∙◌, inl, inr, arith}
+use Rattle.std.specs.Prelude.{◌≡◌, ◌<◌, ℕ, ℤ, Bool, true, false, ◌==◌, if◌then◌else◌, List, [], ◌∷◌, length, get_or, flat_map, Option, Some, None, option_map, option_and_then, Result, Ok, Err, Contains}
+use Rattle.std.proofs.Common.{refl, sym, ap, subst, ◌∙◌, arith}
 use Rattle.std.proofs.Props.{props}
-use Rattle.std.proofs.lemmas.Bool.Decides.{nat_tests}
 use Rattle.std.proofs.lemmas.List.Elements.{Contains-append_left, Contains-append_right, Contains-push}
 use Rattle.entity_types.specs.declared.class.Class.{Class}
-use Rattle.entity_types.specs.declared.class.Class.TheVariants.{RoundHole, PlanarFace, ClosedPocket, LinearPath, LinearProfile, RectangularClosedProfile, GeneralClosedProfile, Polyline, Plane, Axis2Placement3d, CartesianPoint, Direction, Bidirectional, Unidirectional, MillingTechnology, MillingCuttingTool, MillingToolDimension, TolerancedLengthMeasure, NumericParameter}
+use Rattle.entity_types.specs.declared.class.Class.TheVariants.{RoundHole, PlanarFace, ClosedPocket, LinearPath, LinearProfile, RectangularClosedProfile, GeneralClosedProfile, Polyline, Plane, Axis2Placement3d, CartesianPoint, Direction, MillingTechnology, MillingCuttingTool, MillingToolDimension}
 use Rattle.entity_types.specs.declared.table.UsedPosition.{UsedPosition}
 use Rattle.entity_types.specs.declared.field.Field.{Field}
 use Rattle.entity_types.specs.declared.field.Field.TheVariants.{Absent, Present, Ref, Value, Refs, Values}
@@ -14,11 +13,8 @@ use Rattle.entity_types.specs.Table.{used_of}
 use Rattle.entity_types.specs.Entity.{field_at, field_of, references_of, uses_of}
 use Rattle.project_store.specs.Reach.{Reaches, root, used}
 use Rattle.step_def.specs.declared.fault.DefFault.{DefFault}
-use Rattle.step_def.specs.declared.found.Coordinates.{Coordinates}
-use Rattle.step_def.specs.declared.found.Placement.{Placement}
-use Rattle.step_def.specs.declared.found.Figure.{Figure}
 use Rattle.step_def.specs.Steps.{◌>>=◌}
-use Rattle.step_def.specs.Walk.{referred, found, is_of, of_class, instance_at, class_at, is_absent, free, coordinates_in, coordinates_at, placement_at, plane_at, measure_of, length_in, figure, length_at, free_length_at, number_at, free_number_at, kind_at, hole_part, face_part, corner_at, points_alone, four_corners, five_corners, corners_at, corners_in, contour_of, outline_of, pocket_part, feature_part_of, cut_of, is_drilling, is_facing, is_pocketing, is_tool_body, is_strategy, diameter_at, drilling_part, strategy_of, facing_part, pocketing_part, operation_part_of, walk_of}
+use Rattle.step_def.specs.Walk.{referred, found, is_of, of_class, instance_at, class_at, is_absent, free, coordinates_in, coordinates_at, placement_at, plane_at, measure_of, length_in, figure, length_at, free_length_at, kind_at, hole_part, face_part, corner_at, points_alone, four_corners, five_corners, corners_at, corners_in, contour_of, outline_of, pocket_part, feature_part_of, cut_of, is_drilling, is_facing, is_pocketing, is_tool_body, is_strategy, diameter_at, strategy_of, facing_part, pocketing_part, operation_part_of, walk_of}
 use Rattle.path_blocks.specs.Numbers.{Numbers}
 use Rattle.step_def.specs.Numbers.{numbers_at}
 use Rattle.step_def.specs.Ranges.{KeepsRanges, def_with}

@@ -1,25 +1,23 @@
 -- What a walk without a fault comes down to keeps the ranges of a definition. A definition's type keeps the proof of that, so the
 -- definition of a workingstep needs it: it stands here, below that definition, and not among the proofs.
-use Rattle.std.specs.Prelude.{◌≡◌, ℕ, ℤ, pos, negsuc, neg_ℤ, ◌+◌, ◌-◌, ◌*◌, ◌/◌, ◌≤◌, max, ◌+ℤ◌, ◌-ℤ◌, ◌<ℤ◌, int_lt, int_le, nat_le, unsigned_abs, Bool, true, false, cond, not, ◌&&◌, ◌||◌, if◌then◌else◌, IfSome, IsTrue, List, [], ◌∷◌, Option, Some, None, option_map, Result, Ok, Err, refl, ⊤}
+use Rattle.std.specs.Prelude.{◌≡◌, ℕ, ℤ, pos, negsuc, neg_ℤ, ◌-◌, ◌*◌, ◌/◌, ◌≤◌, max, ◌+ℤ◌, ◌-ℤ◌, ◌<ℤ◌, int_lt, int_le, nat_le, unsigned_abs, Bool, true, false, cond, not, ◌&&◌, ◌||◌, if◌then◌else◌, IfSome, IsTrue, List, [], ◌∷◌, Option, Some, None, option_map, Result, Ok, Err, refl, ⊤}
 use Rattle.std.specs.Option.{option_map_or}
-use Rattle.std.specs.List.{list_all}
 use Rattle.std.proofs.Common.{subst, arith}
-use Rattle.std.proofs.lemmas.Int.{ints, clamps}
+use Rattle.std.proofs.lemmas.Int.{ints}
 use Rattle.std.proofs.lemmas.Nat.{mul-le}
 use Rattle.std.proofs.Math.Nat.{div-le_of_le-mul}
 use Rattle.std.specs.Int.{is_positive, int_min, int_max}
 use Rattle.std.specs.Ordering.{int_eq}
 use Rattle.entity_types.specs.declared.entity.Entity.{Entity}
 use Rattle.path_blocks.specs.declared.def.Shape.{Shape}
-use Rattle.path_blocks.specs.declared.def.Shape.TheVariants.{Drill, Plane, Pocket}
+use Rattle.path_blocks.specs.declared.def.Shape.TheVariants.{Drill, Plane}
 use Rattle.path_blocks.specs.Range.{is_within, is_at_least_zero, is_course, fits_shape}
 use Rattle.path_blocks.specs.Count.{block_count}
 use Rattle.path_blocks.specs.Numbers.{Numbers}
-use Rattle.path_blocks.specs.PathPocket.{Rectangle, shrunk}
+use Rattle.path_blocks.specs.PathPocket.{Rectangle}
 use Rattle.step_def.specs.declared.fault.DefFault.{DefFault}
-use Rattle.step_def.specs.declared.fault.DefFault.TheVariants.{HasToolpath, BadDirection, NotPositive, OutOfRange, TooManyBlocks, ToolTooBig, Mismatch}
+use Rattle.step_def.specs.declared.fault.DefFault.TheVariants.{HasToolpath, BadDirection, NotPositive, OutOfRange, TooManyBlocks, ToolTooBig}
 use Rattle.step_def.specs.declared.found.Coordinates.{Coordinates}
-use Rattle.step_def.specs.declared.found.CornerPoints.{CornerPoints}
 use Rattle.step_def.specs.declared.found.Figure.{Figure}
 use Rattle.step_def.specs.declared.found.Ranged.{Ranged}
 use Rattle.step_def.specs.declared.found.FacePart.{FacePart}
@@ -36,11 +34,11 @@ use Rattle.step_def.specs.declared.found.Job.{Job}
 use Rattle.step_def.specs.declared.found.Job.TheVariants.{DrillHole, MillFace, MillPocket}
 use Rattle.step_def.specs.declared.found.Walk.{Walk}
 use Rattle.step_def.specs.Steps.{◌>>=◌}
-use Rattle.step_def.specs.Faults.{all_positive, all_in_range, area_of, area_positives, area_ranges, between, course_check, cut_ranges, depth_of, directions_check, feature_positives, feature_ranges, is_in_range, is_sized, is_straight, job_of, made_by, operation_positives, operation_ranges, partial, place_ranges, placement_check, positives_check, ranges_check, shallower, sized, unless, unsigned}
+use Rattle.step_def.specs.Faults.{all_positive, all_in_range, area_of, area_positives, area_ranges, between, course_check, cut_ranges, depth_of, directions_check, feature_positives, feature_ranges, is_in_range, is_sized, is_straight, job_of, made_by, operation_positives, operation_ranges, place_ranges, placement_check, positives_check, ranges_check, unless}
 use Rattle.step_def.specs.Walk.{found, walk_of}
-use Rattle.step_def.specs.Numbers.{or_else, allowance_of, axial_of, few_blocks, has_room, inset_of, inset_rectangle, numbers_at, numbers_with, pocket_in, radial_of, rectangle_of, retract_height, shape_of, sign_of, step_of}
+use Rattle.step_def.specs.Numbers.{or_else, allowance_of, axial_of, has_room, inset_of, inset_rectangle, numbers_at, numbers_with, pocket_in, radial_of, rectangle_of, shape_of, sign_of, step_of}
 use Rattle.step_def.specs.Ranges.{KeepsRanges}
-use Rattle.step_def.specs.Facts.{AreaFacts, CornersFacts, FaceFacts, Facts, IfBetween, IfPositive, JobFacts, PlaceFacts, PocketFacts, RectangleWithin, SidesFacts}
+use Rattle.step_def.specs.Facts.{AreaFacts, FaceFacts, Facts, IfBetween, IfPositive, JobFacts, PlaceFacts, PocketFacts, RectangleWithin}
 use Rattle.path_blocks.specs.declared.limits.TheConstants.{MAX_BLOCKS}
 use Rattle.step_def.specs.declared.ranges.TheConstants.{MAX_VALUE}
 

@@ -1,7 +1,5 @@
-use Rattle.std.proofs.Common.{rules, arith, ◌≡◌, ◌∙◌, ap, sym, subst, refl, ℕ, ℤ, pos, ◌≤◌, FitsSigned, IsTrue, w64, to_z, of_z, Ok, Result}
-use Rattle.std.proofs.lemmas.Int.{to_z-of_z}
+use Rattle.std.proofs.Common.{rules, ◌∙◌, ap, sym, subst, ℤ, pos, FitsSigned, IsTrue, w64}
 use Rattle.std.specs.Prelude.{int_le, ◌&&◌, neg_ℤ, ◌-ℤ◌, ◌+ℤ◌}
-use Rattle.step_def.specs.Numbers.{allowance_of}
 use Rattle.step_def.specs.Sound.{allowance_fits}
 use Rattle.step_def.proofs.Heights.{bottom_fits, bottom_back}
 use Rattle.step_def.proofs.definition.bottom_of.Goals as goal

@@ -1,6 +1,4 @@
-use Rattle.std.proofs.Common.{rules, arith, ◌≡◌, ◌∙◌, ap, sym, subst, refl, ℕ, ℤ, pos, ◌≤◌, FitsSigned, IsTrue, w64, to_z, of_z, Ok, Result}
-use Rattle.std.proofs.lemmas.Int.{to_z-of_z}
-use Rattle.step_def.specs.Faults.{job_of}
+use Rattle.std.proofs.Common.{◌∙◌, sym}
 use Rattle.step_def.specs.Sound.{facts_of}
 use Rattle.step_def.proofs.definition.checked.Goals as goal
 

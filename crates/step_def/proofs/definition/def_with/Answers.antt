@@ -1,14 +1,13 @@
-use Rattle.std.proofs.Common.{rules, arith, ◌≡◌, ◌∙◌, ap, sym, subst, refl, ℕ, ℤ, pos, Bool, true, false, ◌<◌, ◌≤◌, ◌<ℤ◌, nat_le, FitsSigned, IsTrue, w64, to_z, of_z, Ok, Err, Result}
+use Rattle.std.proofs.Common.{rules, arith, ◌≡◌, ◌∙◌, ap, sym, subst, refl, ℕ, ℤ, true, false, ◌<◌, ◌≤◌, ◌<ℤ◌, nat_le, FitsSigned, IsTrue, w64, to_z, of_z, Ok, Err, Result}
 use Rattle.std.proofs.lemmas.Int.{to_z-of_z}
 use Rattle.std.specs.Prelude.{if◌then◌else◌}
 use Rattle.std.specs.Int.{is_positive}
-use Rattle.path_blocks.specs.declared.def.Shape.{Shape}
-use Rattle.path_blocks.specs.Range.{is_within, fits_shape}
+use Rattle.path_blocks.specs.Range.{is_within}
 use Rattle.path_blocks.specs.Count.{block_count}
 use Rattle.path_blocks.specs.Numbers.{Numbers}
 use Rattle.step_def.specs.declared.fault.DefFault.{DefFault}
 use Rattle.step_def.specs.declared.fault.DefFault.TheVariants.{TooManyBlocks}
-use Rattle.step_def.specs.Numbers.{few_blocks, numbers_with}
+use Rattle.step_def.specs.Numbers.{numbers_with}
 use Rattle.step_def.specs.Ranges.{KeepsRanges}
 use Rattle.step_def.specs.Sound.{facts_of, axial_up, bottom_in, bottom_under, keeps, shaped, z_in}
 use Rattle.step_def.proofs.Keeping.{within_same, feeds_same, cuts_same, downwards_same, shaped_same, few_same}

@@ -1,4 +1,4 @@
-use Rattle.std.proofs.Common.{rules, arith, ◌≡◌, ◌∙◌, ap, sym, subst, refl, ℕ, ℤ, pos, Bool, true, false, ◌<◌, ◌≤◌, ◌<ℤ◌, nat_le, FitsSigned, IsTrue, w64, to_z, of_z, Ok, Err, Result}
+use Rattle.std.proofs.Common.{rules, ◌≡◌, ◌∙◌, ap, sym, refl, ℤ, Bool, FitsSigned, w64, Ok, Result}
 use Rattle.std.proofs.lemmas.Int.{to_z-of_z}
 use Rattle.path_blocks.specs.declared.def.Shape.{Shape}
 use Rattle.path_blocks.specs.declared.def.Shape.TheVariants.{Plane}

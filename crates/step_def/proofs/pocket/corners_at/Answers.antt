@@ -1,4 +1,4 @@
-use Rattle.std.proofs.Common.{◌≡◌, ◌∙◌, sym, refl, ℕ, ◌<◌, ◌≤◌, ◌⊎◌, inl, inr, List, [], ◌∷◌, length, get_or, Option, Result, arith}
+use Rattle.std.proofs.Common.{◌≡◌, ◌∙◌, sym, refl, ℕ, ◌<◌, ◌≤◌, List, [], ◌∷◌, length, get_or, Option, arith}
 use Rattle.entity_types.specs.declared.entity.Entity.{Entity}
 use Rattle.step_def.specs.Walk.{corners_at, five_corners, four_corners, points_alone}
 use Rattle.step_def.proofs.pocket.corners_at.Goals as goal

@@ -1,5 +1,4 @@
-use Rattle.std.proofs.Common.{rules, arith, ◌≡◌, ◌∙◌, ap, sym, subst, refl, ℕ, ℤ, pos, ◌≤◌, FitsSigned, IsTrue, w64, to_z, of_z, Ok, Result}
-use Rattle.std.proofs.lemmas.Int.{to_z-of_z}
+use Rattle.std.proofs.Common.{rules, FitsSigned, w64}
 use Rattle.step_def.proofs.Heights.{same_sides, sum_back, difference_back}
 use Rattle.step_def.proofs.rectangle.shrunk.Goals as goal
 
