@@ -247,8 +247,9 @@ def shown_cases():
                 text = oracle.answer(words, lambda name: (ROOT / name).read_bytes() if (ROOT / name).is_file() else None)[1].decode()
                 if front:
                     text = "".join(text.splitlines(True)[:int(front.group(2))])
+                told = "".join(line for line in output.splitlines(True) if not line.startswith("stepnc: "))  # those go to standard error
                 if output:
-                    yield f"{page}: {command}", text, output
+                    yield f"{page}: {command}", text, told
 
 
 def differences():

@@ -1,21 +1,11 @@
 //! A machine controller that runs STEP-NC programs.
 #![tactic(auto)]
 
-mod answer;
-mod calls;
-mod path;
-mod refusal;
-mod replay;
-mod source;
-mod status;
-mod words;
-
-use calls::top;
+use controller::{Status, top};
 use nc_base::{NcText, NoMemory};
 use nc_outside::{FreeGate, HostFiles, HostSink};
-use status::Status;
 use std::process::ExitCode;
-use std::{env, io};
+use std::{env, io, str};
 
 /// The words after the program's name. Where one isn't UTF-8 there are none.
 fn words_of(rt: HostRuntime) -> Result<Vec<NcText>, NoMemory> {
@@ -32,12 +22,36 @@ fn words_of(rt: HostRuntime) -> Result<Vec<NcText>, NoMemory> {
     Ok(words)
 }
 
-/// Does what the program's words ask for, with the host's files and standard output.
-fn serve(rt: HostRuntime) -> Result<Status, NoMemory> {
-    let words = words_of(rt)?;
+/// The name of the project file, which is the second word of each command that reads one.
+fn project_name(words: &[NcText]) -> &str {
+    match words {
+        [_, name, ..] => str::from_utf8(name.bytes()).unwrap_or("?"),
+        _ => "?",
+    }
+}
+
+/// Says in one line on standard error what a person has to know beside the status and the refusal line. Whether that line can be
+/// written changes nothing.
+fn tell(rt: HostRuntime, words: &[NcText], status: Status) {
+    let _ = match status {
+        Status::BadWords(_) => eprintln!(rt; "stepnc: `stepnc --help` shows the commands"),
+        Status::ReadFault => {
+            let name = project_name(words);
+            eprintln!(rt; "stepnc: the project file {name} could not be read")
+        }
+        Status::WriteFault => {
+            eprintln!(rt; "stepnc: standard output could not take all that was to be written")
+        }
+        Status::NoMemory => eprintln!(rt; "stepnc: out of memory"),
+        Status::Done | Status::RunLimit | Status::Written | Status::ProjectRefused(_) => Ok(()),
+    };
+}
+
+/// Does what the words ask for, with the host's files and standard output.
+fn serve(rt: HostRuntime, words: &[NcText]) -> Result<Status, NoMemory> {
     let mut files = HostFiles::new(&rt);
     let mut sink = HostSink::new(rt.alloc(), io::writer(&rt))?;
-    let status = top(&rt, words.as_slice(), &mut files, &mut sink, &FreeGate);
+    let status = top(&rt, words, &mut files, &mut sink, &FreeGate);
     if status != Status::WriteFault && sink.flush().is_err() {
         return Ok(Status::WriteFault);
     }
@@ -45,8 +59,16 @@ fn serve(rt: HostRuntime) -> Result<Status, NoMemory> {
 }
 
 fn main(rt: HostRuntime) -> ExitCode {
-    ExitCode::from(serve(rt).unwrap_or(Status::NoMemory).code())
+    let status = match words_of(rt) {
+        Ok(words) => {
+            let status = serve(rt, words.as_slice()).unwrap_or(Status::NoMemory);
+            tell(rt, words.as_slice(), status);
+            status
+        }
+        Err(NoMemory) => {
+            tell(rt, &[], Status::NoMemory);
+            Status::NoMemory
+        }
+    };
+    ExitCode::from(status.code())
 }
-
-#[cfg(test)]
-mod tests;

@@ -1,0 +1,373 @@
+-- Words that begin a line, and how many of them do.
+use Rattle.std.proofs.Common.{◌≡◌, ℕ, zero, suc, ◌+◌, ◌<◌, ◌≤◌, Bool, true, false, List, [], ◌∷◌, length, take, get_or, Option, Some, None, refl, sym, ap, subst, ◌∙◌, arith, inl, inr, add-one}
+use Rattle.std.specs.Prelude.{◌&&◌, ◌||◌, ◌==◌, ◌⊎◌, slice_get, codes}
+use Rattle.std.proofs.lemmas.Option.{slice_get-get_or, slice_get_within}
+use Rattle.std.specs.Str.{bytes_eq}
+use Rattle.std.proofs.lemmas.Slice.Eq.{bytes_eq-Decides}
+use Rattle.std.proofs.lemmas.Bool.{eqb-true, eq-eqb}
+use Rattle.std.proofs.lemmas.List.{take_all}
+use Rattle.controller.specs.Numerals.{value_of}
+use Rattle.controller.specs.Words.{Form, begins, is_line, AreBadAt, is_name, is_limit, is_step, replay_line, path_line, help_line, version_line, IsReplay, IsPath}
+use Rattle.controller.specs.Commands.{is_some_of, has_word, HasWord}
+
+-- the word is of the form that stands there, if one does
+abbrev passes : Option Form → List ℕ → Bool
+passes None w = false
+passes (Some form) w = form w
+
+-- so many words begin the line, and no more of them do
+pub record AreFit (ws : List (List ℕ)) (forms : List Form) (n : ℕ) : Type 0 where
+  pub within : n ≤ length ws
+  pub begun : begins (take n ws) forms ≡ true
+  pub ended : n < length ws → begins (take (n + 1) ws) forms ≡ false
+
+pub no_test : (b : Bool) → b ≡ true → b ≡ false → ⊥
+no_test b p q = let e : true ≡ false = sym p ∙ q in absurd (cc)
+
+pub tested : (b : Bool) → (b ≡ true) ⊎ (b ≡ false)
+tested true = inl refl
+tested false = inr refl
+
+pub both : (a b : Bool) → (a && b) ≡ true → (a ≡ true) × (b ≡ true)
+both true b e = (refl, e)
+both false b e = absurd (cc)
+
+and_false : (a b : Bool) → b ≡ false → (a && b) ≡ false
+and_false true b e = e
+and_false false b e = refl
+
+-- one word more begins the line where it is of the form that stands there
+begins_more : (ws : List (List ℕ)) (forms : List Form) (n : ℕ) (w : List ℕ) (b : Bool) → slice_get ws n ≡ Some w → passes (slice_get forms n) w ≡ b → begins (take n ws) forms ≡ true
+    → begins (take (suc n) ws) forms ≡ b
+begins_more [] forms n w b at test begun = absurd (cc)
+begins_more (v ∷ ws) [] zero w b at test begun = test
+begins_more (v ∷ ws) [] (suc n) w b at test begun = absurd (cc)
+begins_more (v ∷ ws) (form ∷ forms) zero w b at test begun =
+    let e : v ≡ w = cc in by (form v) b (ap form e ∙ test)
+  where
+    by : (a b : Bool) → a ≡ b → (a && true) ≡ b
+    by true b e = e
+    by false b e = e
+begins_more (v ∷ ws) (form ∷ forms) (suc n) w b at test begun =
+    let h = both (form v) (begins (take n ws) forms) begun in
+    rw h.0 (begins_more ws forms n w b at test h.1)
+
+fewer_and : (a b c : Bool) → (a && b) ≡ false → (b ≡ false → c ≡ false) → (a && c) ≡ false
+fewer_and true b c e f = f e
+fewer_and false b c e f = refl
+
+-- more words begin no line that fewer don't begin
+pub begins_fewer : (ws : List (List ℕ)) (forms : List Form) (i j : ℕ) → i ≤ j → begins (take i ws) forms ≡ false → begins (take j ws) forms ≡ false
+begins_fewer ws forms zero j le e = absurd (cc)
+begins_fewer [] forms (suc i) j le e = absurd (cc)
+begins_fewer (w ∷ ws) forms (suc i) zero le e = absurd (omega arith)
+begins_fewer (w ∷ ws) [] (suc i) (suc j) le e = refl
+begins_fewer (w ∷ ws) (form ∷ forms) (suc i) (suc j) le e = fewer_and (form w) (begins (take i ws) forms) (begins (take j ws) forms) e (begins_fewer ws forms i j (omega arith))
+
+-- no line is longer than the words that fit it
+no_begin : (ws : List (List ℕ)) (forms : List Form) (n i : ℕ) → AreFit ws forms n → n < i → i ≤ length ws → begins (take i ws) forms ≡ false
+no_begin ws forms n i fit lt le = begins_fewer ws forms (n + 1) i (omega arith) (fit.ended (omega arith))
+
+-- the words are no line where not all of them fit, or they are fewer than it has
+not_line : (ws : List (List ℕ)) (forms : List Form) (n : ℕ) → AreFit ws forms n → ((n ≡ length ws) → (n ≡ length forms) → ⊥) → is_line ws forms ≡ false
+not_line ws forms n fit differ =
+    elim (tested (is_line ws forms)) [
+      | inl t ↦
+          let h = both (begins ws forms) (length ws == length forms) t in
+          absurd (elim (fewer n (length ws) fit.within) [
+            | inl lt ↦ no_test (begins ws forms) h.0 (ap (λ (v : List (List ℕ)). begins v forms) (sym (take_all (length ws) ws (omega arith))) ∙ no_begin ws forms n (length ws) fit lt (omega arith))
+            | inr all ↦ differ all (all ∙ eqb-true (length ws) (length forms) h.1)
+          ])
+      | inr f ↦ f
+    ]
+  where
+    fewer : (n m : ℕ) → n ≤ m → (n < m) ⊎ (n ≡ m)
+    fewer n m le = grind arith
+
+none_of : (a b c d : Bool) → a ≡ false → b ≡ false → c ≡ false → d ≡ false → (a || (b || (c || (d || false)))) ≡ false
+none_of a b c d p q r t = rw (p, q, r, t) refl
+
+some_of : (a b c d : Bool) → (a ≡ true) ⊎ ((b ≡ true) ⊎ ((c ≡ true) ⊎ (d ≡ true))) → (a || (b || (c || (d || false)))) ≡ true
+some_of true b c d e = refl
+some_of false true c d e = refl
+some_of false false true d e = refl
+some_of false false false true e = refl
+some_of false false false false (inl e) = absurd (cc)
+some_of false false false false (inr (inl e)) = absurd (cc)
+some_of false false false false (inr (inr (inl e))) = absurd (cc)
+some_of false false false false (inr (inr (inr e))) = absurd (cc)
+
+-- the longest of the four fits is the place that is bad
+bad_at : (ws : List (List ℕ)) (a b c d n : ℕ) → AreFit ws replay_line a → AreFit ws path_line b → AreFit ws help_line c → AreFit ws version_line d
+    → is_line ws replay_line ≡ false → is_line ws path_line ≡ false → is_line ws help_line ≡ false → is_line ws version_line ≡ false
+    → a ≤ n → b ≤ n → c ≤ n → d ≤ n → ((n ≡ a) ⊎ ((n ≡ b) ⊎ ((n ≡ c) ⊎ (n ≡ d)))) → AreBadAt ws n
+bad_at ws a b c d n fit_a fit_b fit_c fit_d no_a no_b no_c no_d le_a le_b le_c le_d which = record {
+  no_line = none_of (is_line ws replay_line) (is_line ws path_line) (is_line ws help_line) (is_line ws version_line) no_a no_b no_c no_d;
+  within = elim which [
+    | inl e ↦ omega (arith, fit_a.within)
+    | inr later ↦ elim later [ inl e ↦ omega (arith, fit_b.within) | inr last ↦ elim last [ inl e ↦ omega (arith, fit_c.within) | inr e ↦ omega (arith, fit_d.within) ] ]
+  ];
+  begun = some_of (begins (take n ws) replay_line) (begins (take n ws) path_line) (begins (take n ws) help_line) (begins (take n ws) version_line) (elim which [
+    | inl e ↦ inl (rw e fit_a.begun)
+    | inr later ↦ inr (elim later [ inl e ↦ inl (rw e fit_b.begun) | inr last ↦ inr (elim last [ inl e ↦ inl (rw e fit_c.begun) | inr e ↦ inr (rw e fit_d.begun) ]) ])
+  ]);
+  ended = λ lt. none_of (begins (take (n + 1) ws) replay_line) (begins (take (n + 1) ws) path_line) (begins (take (n + 1) ws) help_line) (begins (take (n + 1) ws) version_line)
+      (no_begin ws replay_line a (n + 1) fit_a (omega arith) (omega arith)) (no_begin ws path_line b (n + 1) fit_b (omega arith) (omega arith))
+      (no_begin ws help_line c (n + 1) fit_c (omega arith) (omega arith)) (no_begin ws version_line d (n + 1) fit_d (omega arith) (omega arith));
+}
+
+short : (b : Bool) → (b && false) ≡ true → ⊥
+short true e = absurd (cc)
+short false e = absurd (cc)
+
+-- what stands in the words of a replay
+pub replay_shape : (ws : List (List ℕ)) → is_line ws replay_line ≡ true
+    → (name : List ℕ) × (last : List ℕ) × (slice_get ws 1 ≡ Some name) × (slice_get ws 4 ≡ Some last) × (5 ≤ length ws) × (is_limit last ≡ true) × IsReplay ws name (value_of last)
+replay_shape [] e = absurd (cc)
+replay_shape (a ∷ []) e = absurd (short (begins (a ∷ []) replay_line) e)
+replay_shape (a ∷ b ∷ []) e = absurd (short (begins (a ∷ b ∷ []) replay_line) e)
+replay_shape (a ∷ b ∷ c ∷ []) e = absurd (short (begins (a ∷ b ∷ c ∷ []) replay_line) e)
+replay_shape (a ∷ b ∷ c ∷ d ∷ []) e = absurd (short (begins (a ∷ b ∷ c ∷ d ∷ []) replay_line) e)
+replay_shape (a ∷ b ∷ c ∷ d ∷ l ∷ []) e =
+    let h = both (begins (a ∷ b ∷ c ∷ d ∷ l ∷ []) replay_line) true e in
+    let h1 = both (bytes_eq (codes "replay") a) (begins (b ∷ c ∷ d ∷ l ∷ []) (is_name ∷ bytes_eq (codes "-") ∷ bytes_eq (codes "-") ∷ is_limit ∷ [])) h.0 in
+    let h2 = both (is_name b) (begins (c ∷ d ∷ l ∷ []) (bytes_eq (codes "-") ∷ bytes_eq (codes "-") ∷ is_limit ∷ [])) h1.1 in
+    let h3 = both (bytes_eq (codes "-") c) (begins (d ∷ l ∷ []) (bytes_eq (codes "-") ∷ is_limit ∷ [])) h2.1 in
+    let h4 = both (bytes_eq (codes "-") d) (begins (l ∷ []) (is_limit ∷ [])) h3.1 in
+    let h5 = both (is_limit l) true h4.1 in
+    (b, l, refl, refl, omega arith, h5.0, (e, refl, refl))
+replay_shape (a ∷ b ∷ c ∷ d ∷ l ∷ x ∷ ws) e =
+    let long : suc (suc (suc (suc (suc (suc (length ws)))))) ≡ 5 = eqb-true (suc (suc (suc (suc (suc (suc (length ws))))))) 5 (both (begins (a ∷ b ∷ c ∷ d ∷ l ∷ x ∷ ws) replay_line) (suc (suc (suc (suc (suc (suc (length ws)))))) == 5) e).1 in
+    absurd (omega arith)
+
+-- what stands in the words of a path
+pub path_shape : (ws : List (List ℕ)) → is_line ws path_line ≡ true
+    → (name : List ℕ) × (last : List ℕ) × (slice_get ws 1 ≡ Some name) × (slice_get ws 2 ≡ Some last) × (3 ≤ length ws) × (is_step last ≡ true) × IsPath ws name (value_of last)
+path_shape [] e = absurd (cc)
+path_shape (a ∷ []) e = absurd (short (begins (a ∷ []) path_line) e)
+path_shape (a ∷ b ∷ []) e = absurd (short (begins (a ∷ b ∷ []) path_line) e)
+path_shape (a ∷ b ∷ n ∷ []) e =
+    let h = both (begins (a ∷ b ∷ n ∷ []) path_line) true e in
+    let h1 = both (bytes_eq (codes "path") a) (begins (b ∷ n ∷ []) (is_name ∷ is_step ∷ [])) h.0 in
+    let h2 = both (is_name b) (begins (n ∷ []) (is_step ∷ [])) h1.1 in
+    let h3 = both (is_step n) true h2.1 in
+    (b, n, refl, refl, omega arith, h3.0, (e, refl, refl))
+path_shape (a ∷ b ∷ n ∷ x ∷ ws) e =
+    let long : suc (suc (suc (suc (length ws)))) ≡ 3 = eqb-true (suc (suc (suc (suc (length ws))))) 3 (both (begins (a ∷ b ∷ n ∷ x ∷ ws) path_line) (suc (suc (suc (suc (length ws)))) == 3) e).1 in
+    absurd (omega arith)
+
+-- so many words stand there and begin the line
+pub record AreBegun (ws : List (List ℕ)) (forms : List Form) (n : ℕ) : Type 0 where
+  pub within : n ≤ length ws
+  pub begun : begins (take n ws) forms ≡ true
+
+is_present : (form : Form) (o : Option (List ℕ)) → is_some_of form o ≡ true → (w : List ℕ) × (o ≡ Some w) × (form w ≡ true)
+is_present form None e = absurd (cc)
+is_present form (Some w) e = (w, refl, e)
+
+pub word_of : (ws : List (List ℕ)) (n : ℕ) (form : Form) → has_word ws n form ≡ true → (w : List ℕ) × HasWord ws n form w
+word_of ws n form e = let h = is_present form (slice_get ws n) e in (h.0, (h.1, h.2))
+
+abbrev some_word : List ℕ → Option (List ℕ)
+some_word w = Some w
+
+fails_on : (form : Form) (o : Option (List ℕ)) (w : List ℕ) → is_some_of form o ≡ false → o ≡ some_word w → form w ≡ false
+fails_on form None w e is = absurd (cc)
+fails_on form (Some v) w e is = let same : v ≡ w = cc in ap form (sym same) ∙ e
+
+pub begun_none : (ws : List (List ℕ)) (forms : List Form) → AreBegun ws forms 0
+begun_none ws forms = record { within = omega arith; begun = refl }
+
+pub begun_more : (ws : List (List ℕ)) (forms : List Form) (n : ℕ) (form : Form) (w : List ℕ) → slice_get forms n ≡ Some form → HasWord ws n form w → AreBegun ws forms n → AreBegun ws forms (suc n)
+begun_more ws forms n form w there has begun = record {
+  within = let lt = slice_get_within ws n w has.0 in omega arith;
+  begun = begins_more ws forms n w true has.0 (rw there has.1) begun.begun;
+}
+
+fit_at : (ws : List (List ℕ)) (forms : List Form) (n : ℕ) → AreBegun ws forms n → ((w : List ℕ) → slice_get ws n ≡ Some w → passes (slice_get forms n) w ≡ false) → AreFit ws forms n
+fit_at ws forms n begun fails = record {
+  within = begun.within;
+  begun = begun.begun;
+  ended = λ lt. let at = slice_get-get_or ws n [] lt in rw add-one (begins_more ws forms n (get_or ws n []) false at (fails (get_or ws n []) at) begun.begun);
+}
+
+fit_before : (ws : List (List ℕ)) (forms : List Form) (n : ℕ) (form : Form) → slice_get forms n ≡ Some form → has_word ws n form ≡ false → AreBegun ws forms n → AreFit ws forms n
+fit_before ws forms n form there not begun = fit_at ws forms n begun (λ w at. rw there (fails_on form (slice_get ws n) w not at))
+
+fit_whole : (ws : List (List ℕ)) (forms : List Form) (n : ℕ) → slice_get forms n ≡ None → AreBegun ws forms n → AreFit ws forms n
+fit_whole ws forms n past begun = fit_at ws forms n begun (λ w at. rw past refl)
+
+pub begun_line : (ws : List (List ℕ)) (forms : List Form) (n : ℕ) → AreBegun ws forms n → length ws ≤ n → n ≡ length forms → is_line ws forms ≡ true
+begun_line ws forms n begun short whole =
+    let begins_all : begins ws forms ≡ true = ap (λ (v : List (List ℕ)). begins v forms) (sym (take_all n ws short)) ∙ begun.begun in
+    let long = begun.within in
+    let all : length ws ≡ length forms = omega arith in
+    rw begins_all (eq-eqb (length ws) (length forms) all)
+
+same_bytes : (a b : List ℕ) → bytes_eq a b ≡ true → a ≡ b
+same_bytes a b e = (bytes_eq-Decides a b).0 e
+
+differ : (a b w : List ℕ) → bytes_eq a w ≡ true → bytes_eq b a ≡ false → bytes_eq b w ≡ false
+differ a b w e f = subst (λ (v : List ℕ). bytes_eq b v ≡ false) (same_bytes a w e) f
+
+-- the first word of one line begins no other
+starts_other : (ws : List (List ℕ)) (a b : List ℕ) (forms : List Form) → has_word ws 0 (bytes_eq a) ≡ true → bytes_eq b a ≡ false → AreFit ws (bytes_eq b ∷ forms) 0
+starts_other ws a b forms first apart =
+    let h = word_of ws 0 (bytes_eq a) first in
+    fit_at ws (bytes_eq b ∷ forms) 0 (begun_none ws (bytes_eq b ∷ forms)) (λ w at. let same : some_word h.0 ≡ some_word w = sym h.1.0 ∙ at in let e : h.0 ≡ w = cc in
+    differ a b w (subst (λ (v : List ℕ). bytes_eq a v ≡ true) e h.1.1) apart)
+
+no_line_at_0 : (ws : List (List ℕ)) (form : Form) (forms : List Form) → AreFit ws (form ∷ forms) 0 → is_line ws (form ∷ forms) ≡ false
+no_line_at_0 ws form forms fit = not_line ws (form ∷ forms) 0 fit (λ all whole. absurd (omega arith))
+
+-- the place at which words are bad whose first is that of one line, and which begin that line so far
+pub bad_replay : (ws : List (List ℕ)) (n : ℕ) → has_word ws 0 (bytes_eq (codes "replay")) ≡ true → AreFit ws replay_line n → is_line ws replay_line ≡ false → AreBadAt ws n
+bad_replay ws n first fit not =
+    let path = starts_other ws (codes "replay") (codes "path") (is_name ∷ is_step ∷ []) first refl in
+    let help = starts_other ws (codes "replay") (codes "--help") [] first refl in
+    let version = starts_other ws (codes "replay") (codes "--version") [] first refl in
+    bad_at ws n 0 0 0 n fit path help version not (no_line_at_0 ws _ _ path) (no_line_at_0 ws _ _ help) (no_line_at_0 ws _ _ version) (omega arith) (omega arith) (omega arith) (omega arith) (inl refl)
+
+pub bad_path : (ws : List (List ℕ)) (n : ℕ) → has_word ws 0 (bytes_eq (codes "path")) ≡ true → AreFit ws path_line n → is_line ws path_line ≡ false → AreBadAt ws n
+bad_path ws n first fit not =
+    let replay = starts_other ws (codes "path") (codes "replay") (is_name ∷ bytes_eq (codes "-") ∷ bytes_eq (codes "-") ∷ is_limit ∷ []) first refl in
+    let help = starts_other ws (codes "path") (codes "--help") [] first refl in
+    let version = starts_other ws (codes "path") (codes "--version") [] first refl in
+    bad_at ws 0 n 0 0 n replay fit help version (no_line_at_0 ws _ _ replay) not (no_line_at_0 ws _ _ help) (no_line_at_0 ws _ _ version) (omega arith) (omega arith) (omega arith) (omega arith) (inr (inl refl))
+
+pub bad_help : (ws : List (List ℕ)) (n : ℕ) → has_word ws 0 (bytes_eq (codes "--help")) ≡ true → AreFit ws help_line n → is_line ws help_line ≡ false → AreBadAt ws n
+bad_help ws n first fit not =
+    let replay = starts_other ws (codes "--help") (codes "replay") (is_name ∷ bytes_eq (codes "-") ∷ bytes_eq (codes "-") ∷ is_limit ∷ []) first refl in
+    let path = starts_other ws (codes "--help") (codes "path") (is_name ∷ is_step ∷ []) first refl in
+    let version = starts_other ws (codes "--help") (codes "--version") [] first refl in
+    bad_at ws 0 0 n 0 n replay path fit version (no_line_at_0 ws _ _ replay) (no_line_at_0 ws _ _ path) not (no_line_at_0 ws _ _ version) (omega arith) (omega arith) (omega arith) (omega arith) (inr (inr (inl refl)))
+
+pub bad_version : (ws : List (List ℕ)) (n : ℕ) → has_word ws 0 (bytes_eq (codes "--version")) ≡ true → AreFit ws version_line n → is_line ws version_line ≡ false → AreBadAt ws n
+bad_version ws n first fit not =
+    let replay = starts_other ws (codes "--version") (codes "replay") (is_name ∷ bytes_eq (codes "-") ∷ bytes_eq (codes "-") ∷ is_limit ∷ []) first refl in
+    let path = starts_other ws (codes "--version") (codes "path") (is_name ∷ is_step ∷ []) first refl in
+    let help = starts_other ws (codes "--version") (codes "--help") [] first refl in
+    bad_at ws 0 0 0 n n replay path help fit (no_line_at_0 ws _ _ replay) (no_line_at_0 ws _ _ path) (no_line_at_0 ws _ _ help) not (omega arith) (omega arith) (omega arith) (omega arith) (inr (inr (inr refl)))
+
+no_first : (ws : List (List ℕ)) (form : Form) (forms : List Form) → has_word ws 0 form ≡ false → AreFit ws (form ∷ forms) 0
+no_first ws form forms not = fit_before ws (form ∷ forms) 0 form refl not (begun_none ws (form ∷ forms))
+
+-- words of which the first is that of no line are bad from the beginning
+pub bad_first : (ws : List (List ℕ)) → has_word ws 0 (bytes_eq (codes "replay")) ≡ false → has_word ws 0 (bytes_eq (codes "path")) ≡ false → has_word ws 0 (bytes_eq (codes "--help")) ≡ false
+    → has_word ws 0 (bytes_eq (codes "--version")) ≡ false → AreBadAt ws 0
+bad_first ws r p h v =
+    let replay = no_first ws (bytes_eq (codes "replay")) (is_name ∷ bytes_eq (codes "-") ∷ bytes_eq (codes "-") ∷ is_limit ∷ []) r in
+    let path = no_first ws (bytes_eq (codes "path")) (is_name ∷ is_step ∷ []) p in
+    let help = no_first ws (bytes_eq (codes "--help")) [] h in
+    let version = no_first ws (bytes_eq (codes "--version")) [] v in
+    bad_at ws 0 0 0 0 0 replay path help version (no_line_at_0 ws _ _ replay) (no_line_at_0 ws _ _ path) (no_line_at_0 ws _ _ help) (no_line_at_0 ws _ _ version) (omega arith) (omega arith) (omega arith) (omega arith) (inl refl)
+
+-- the words begin a line and go on otherwise, before its end or behind it: they aren't the line, and this is how far they fit
+pub stops_before : (ws : List (List ℕ)) (forms : List Form) (n : ℕ) (form : Form) → slice_get forms n ≡ Some form → n < length forms → has_word ws n form ≡ false → AreBegun ws forms n
+    → AreFit ws forms n × (is_line ws forms ≡ false)
+stops_before ws forms n form there lt not begun =
+    let fit = fit_before ws forms n form there not begun in
+    (fit, not_line ws forms n fit (λ all whole. absurd (omega arith)))
+
+pub stops_behind : (ws : List (List ℕ)) (forms : List Form) (n : ℕ) → slice_get forms n ≡ None → n < length ws → AreBegun ws forms n → AreFit ws forms n × (is_line ws forms ≡ false)
+stops_behind ws forms n past more begun =
+    let fit = fit_whole ws forms n past begun in
+    (fit, not_line ws forms n fit (λ all whole. absurd (omega arith)))
+
+-- the words so far of a replay
+pub replay_1 : (ws : List (List ℕ)) → has_word ws 0 (bytes_eq (codes "replay")) ≡ true → AreBegun ws replay_line 1
+replay_1 ws first = let h = word_of ws 0 (bytes_eq (codes "replay")) first in begun_more ws replay_line 0 (bytes_eq (codes "replay")) h.0 refl h.1 (begun_none ws replay_line)
+
+pub replay_2 : (ws : List (List ℕ)) (name : List ℕ) → HasWord ws 1 is_name name → AreBegun ws replay_line 1 → AreBegun ws replay_line 2
+replay_2 ws name has begun = begun_more ws replay_line 1 is_name name refl has begun
+
+pub replay_3 : (ws : List (List ℕ)) → has_word ws 2 (bytes_eq (codes "-")) ≡ true → AreBegun ws replay_line 2 → AreBegun ws replay_line 3
+replay_3 ws hyphen begun = let h = word_of ws 2 (bytes_eq (codes "-")) hyphen in begun_more ws replay_line 2 (bytes_eq (codes "-")) h.0 refl h.1 begun
+
+pub replay_4 : (ws : List (List ℕ)) → has_word ws 3 (bytes_eq (codes "-")) ≡ true → AreBegun ws replay_line 3 → AreBegun ws replay_line 4
+replay_4 ws hyphen begun = let h = word_of ws 3 (bytes_eq (codes "-")) hyphen in begun_more ws replay_line 3 (bytes_eq (codes "-")) h.0 refl h.1 begun
+
+pub replay_5 : (ws : List (List ℕ)) (last : List ℕ) → HasWord ws 4 is_limit last → AreBegun ws replay_line 4 → AreBegun ws replay_line 5
+replay_5 ws last has begun = begun_more ws replay_line 4 is_limit last refl has begun
+
+pub path_1 : (ws : List (List ℕ)) → has_word ws 0 (bytes_eq (codes "path")) ≡ true → AreBegun ws path_line 1
+path_1 ws first = let h = word_of ws 0 (bytes_eq (codes "path")) first in begun_more ws path_line 0 (bytes_eq (codes "path")) h.0 refl h.1 (begun_none ws path_line)
+
+pub path_2 : (ws : List (List ℕ)) (name : List ℕ) → HasWord ws 1 is_name name → AreBegun ws path_line 1 → AreBegun ws path_line 2
+path_2 ws name has begun = begun_more ws path_line 1 is_name name refl has begun
+
+pub path_3 : (ws : List (List ℕ)) (last : List ℕ) → HasWord ws 2 is_step last → AreBegun ws path_line 2 → AreBegun ws path_line 3
+path_3 ws last has begun = begun_more ws path_line 2 is_step last refl has begun
+
+pub help_1 : (ws : List (List ℕ)) → has_word ws 0 (bytes_eq (codes "--help")) ≡ true → AreBegun ws help_line 1
+help_1 ws first = let h = word_of ws 0 (bytes_eq (codes "--help")) first in begun_more ws help_line 0 (bytes_eq (codes "--help")) h.0 refl h.1 (begun_none ws help_line)
+
+pub version_1 : (ws : List (List ℕ)) → has_word ws 0 (bytes_eq (codes "--version")) ≡ true → AreBegun ws version_line 1
+version_1 ws first = let h = word_of ws 0 (bytes_eq (codes "--version")) first in begun_more ws version_line 0 (bytes_eq (codes "--version")) h.0 refl h.1 (begun_none ws version_line)
+
+same_word : (a b : List ℕ) → some_word a ≡ some_word b → a ≡ b
+same_word a b e = cc
+
+-- whole words of a replay and of a path, with what was read of them
+pub is_replay : (ws : List (List ℕ)) (name last : List ℕ) (limit : ℕ) → AreBegun ws replay_line 5 → length ws ≤ 5 → HasWord ws 1 is_name name → HasWord ws 4 is_limit last → limit ≡ value_of last → IsReplay ws name limit
+is_replay ws name last limit begun short at_1 at_4 value =
+    let shape = replay_shape ws (begun_line ws replay_line 5 begun short refl) in
+    let e_name : shape.0 ≡ name = same_word shape.0 name (sym shape.2 ∙ at_1.0) in
+    let e_last : shape.1 ≡ last = same_word shape.1 last (sym shape.3 ∙ at_4.0) in
+    let e_limit : value_of shape.1 ≡ limit = ap value_of e_last ∙ sym value in
+    subst (λ (n : List ℕ). IsReplay ws n limit) e_name (subst (λ (v : ℕ). IsReplay ws shape.0 v) e_limit shape.6)
+
+pub is_path : (ws : List (List ℕ)) (name last : List ℕ) (n : ℕ) → AreBegun ws path_line 3 → length ws ≤ 3 → HasWord ws 1 is_name name → HasWord ws 2 is_step last → n ≡ value_of last → IsPath ws name n
+is_path ws name last n begun short at_1 at_2 value =
+    let shape = path_shape ws (begun_line ws path_line 3 begun short refl) in
+    let e_name : shape.0 ≡ name = same_word shape.0 name (sym shape.2 ∙ at_1.0) in
+    let e_last : shape.1 ≡ last = same_word shape.1 last (sym shape.3 ∙ at_2.0) in
+    let e_n : value_of shape.1 ≡ n = ap value_of e_last ∙ sym value in
+    subst (λ (m : List ℕ). IsPath ws m n) e_name (subst (λ (v : ℕ). IsPath ws shape.0 v) e_n shape.6)
+
+-- words of a replay that go on otherwise at some place
+pub replay_stops_2 : (ws : List (List ℕ)) (name : List ℕ) (bad : ℕ) → has_word ws 0 (bytes_eq (codes "replay")) ≡ true → HasWord ws 1 is_name name → (bad ≡ 2) × (has_word ws 2 (bytes_eq (codes "-")) ≡ false)
+    → AreBadAt ws bad
+replay_stops_2 ws name bad first at_1 stop =
+    let five : length replay_line ≡ 5 = refl in
+    let s = stops_before ws replay_line 2 (bytes_eq (codes "-")) refl (omega arith) stop.1 (replay_2 ws name at_1 (replay_1 ws first)) in
+    subst (λ (n : ℕ). AreBadAt ws n) (sym stop.0) (bad_replay ws 2 first s.0 s.1)
+
+pub replay_stops_3 : (ws : List (List ℕ)) (name : List ℕ) (bad : ℕ) → has_word ws 0 (bytes_eq (codes "replay")) ≡ true → HasWord ws 1 is_name name → has_word ws 2 (bytes_eq (codes "-")) ≡ true
+    → (bad ≡ 3) × (has_word ws 3 (bytes_eq (codes "-")) ≡ false) → AreBadAt ws bad
+replay_stops_3 ws name bad first at_1 at_2 stop =
+    let five : length replay_line ≡ 5 = refl in
+    let s = stops_before ws replay_line 3 (bytes_eq (codes "-")) refl (omega arith) stop.1 (replay_3 ws at_2 (replay_2 ws name at_1 (replay_1 ws first))) in
+    subst (λ (n : ℕ). AreBadAt ws n) (sym stop.0) (bad_replay ws 3 first s.0 s.1)
+
+pub replay_stops_4 : (ws : List (List ℕ)) (name : List ℕ) (bad : ℕ) → has_word ws 0 (bytes_eq (codes "replay")) ≡ true → HasWord ws 1 is_name name → has_word ws 2 (bytes_eq (codes "-")) ≡ true
+    → has_word ws 3 (bytes_eq (codes "-")) ≡ true → (bad ≡ 4) × (has_word ws 4 is_limit ≡ false) → AreBadAt ws bad
+replay_stops_4 ws name bad first at_1 at_2 at_3 stop =
+    let five : length replay_line ≡ 5 = refl in
+    let s = stops_before ws replay_line 4 is_limit refl (omega arith) stop.1 (replay_4 ws at_3 (replay_3 ws at_2 (replay_2 ws name at_1 (replay_1 ws first)))) in
+    subst (λ (n : ℕ). AreBadAt ws n) (sym stop.0) (bad_replay ws 4 first s.0 s.1)
+
+pub replay_stops_5 : (ws : List (List ℕ)) (name last : List ℕ) (bad : ℕ) → has_word ws 0 (bytes_eq (codes "replay")) ≡ true → HasWord ws 1 is_name name → has_word ws 2 (bytes_eq (codes "-")) ≡ true
+    → has_word ws 3 (bytes_eq (codes "-")) ≡ true → HasWord ws 4 is_limit last → (bad ≡ 5) × (5 < length ws) → AreBadAt ws bad
+replay_stops_5 ws name last bad first at_1 at_2 at_3 at_4 stop =
+    let s = stops_behind ws replay_line 5 refl stop.1 (replay_5 ws last at_4 (replay_4 ws at_3 (replay_3 ws at_2 (replay_2 ws name at_1 (replay_1 ws first))))) in
+    subst (λ (n : ℕ). AreBadAt ws n) (sym stop.0) (bad_replay ws 5 first s.0 s.1)
+
+-- words of a path that go on otherwise at some place
+pub path_stops_2 : (ws : List (List ℕ)) (name : List ℕ) (bad : ℕ) → has_word ws 0 (bytes_eq (codes "path")) ≡ true → HasWord ws 1 is_name name → (bad ≡ 2) × (has_word ws 2 is_step ≡ false) → AreBadAt ws bad
+path_stops_2 ws name bad first at_1 stop =
+    let three : length path_line ≡ 3 = refl in
+    let s = stops_before ws path_line 2 is_step refl (omega arith) stop.1 (path_2 ws name at_1 (path_1 ws first)) in
+    subst (λ (n : ℕ). AreBadAt ws n) (sym stop.0) (bad_path ws 2 first s.0 s.1)
+
+pub path_stops_3 : (ws : List (List ℕ)) (name last : List ℕ) (bad : ℕ) → has_word ws 0 (bytes_eq (codes "path")) ≡ true → HasWord ws 1 is_name name → HasWord ws 2 is_step last → (bad ≡ 3) × (3 < length ws)
+    → AreBadAt ws bad
+path_stops_3 ws name last bad first at_1 at_2 stop =
+    let s = stops_behind ws path_line 3 refl stop.1 (path_3 ws last at_2 (path_2 ws name at_1 (path_1 ws first))) in
+    subst (λ (n : ℕ). AreBadAt ws n) (sym stop.0) (bad_path ws 3 first s.0 s.1)
+
+pub whole_help : (ws : List (List ℕ)) → has_word ws 0 (bytes_eq (codes "--help")) ≡ true → length ws ≤ 1 → is_line ws help_line ≡ true
+whole_help ws first short = begun_line ws help_line 1 (help_1 ws first) short refl
+
+pub whole_version : (ws : List (List ℕ)) → has_word ws 0 (bytes_eq (codes "--version")) ≡ true → length ws ≤ 1 → is_line ws version_line ≡ true
+whole_version ws first short = begun_line ws version_line 1 (version_1 ws first) short refl

@@ -1,0 +1,6 @@
+pub mod NumeralsLemmas
+pub mod CommandLemmas
+pub mod RefusalLemmas
+pub mod ReplayingLemmas
+pub mod ShowingLemmas
+pub mod TopCallsLemmas

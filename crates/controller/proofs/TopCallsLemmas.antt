@@ -1,0 +1,87 @@
+-- What is said is right.
+use Rattle.std.proofs.Common.{◌≡◌, ℕ, List, Option, Result, Ok, Err, refl, sym, subst, inl, inr}
+use Rattle.std.specs.Prelude.{IfSome, false}
+use Rattle.run_log.specs.declared.entry.Ending.TheVariants as endings
+use Rattle.project_read.specs.declared.reason.ProjectReason.{ProjectReason}
+use Rattle.project_read.specs.declared.reason.ProjectReason.TheVariants as reasons
+use Rattle.project_read.specs.Faults.{is_among}
+use Rattle.project_read.specs.Holds.{Project, Holds}
+use Rattle.controller.specs.declared.answer.Answer.{Answer}
+use Rattle.controller.specs.declared.answer.Answer.TheVariants as answers
+use Rattle.controller.specs.declared.answer.Stop.{Stop}
+use Rattle.controller.specs.declared.answer.Stop.TheVariants as stops
+use Rattle.controller.specs.declared.status.Status.{Status}
+use Rattle.controller.specs.declared.status.Status.TheVariants as statuses
+use Rattle.controller.specs.Words.{IsReplay, IsPath, NamesProject}
+use Rattle.controller.specs.Outside.{Outside}
+use Rattle.controller.specs.Asked.{IsRefused, IsRight}
+use Rattle.controller.specs.Answer.{answer_text, answer_status}
+use Rattle.controller.specs.Answered.{Answered}
+use Rattle.controller.specs.ProjectFile.{IsRefusedFile, Replays, Shows, OrStops, IsAnswer, AnswersOrStops, IsPut}
+
+-- what is refused of a named file is refused for the words
+refused : (ws : List (List ℕ)) (holds : List ℕ → Option (List ℕ)) (name : List ℕ) (reason : ProjectReason) → NamesProject ws name → IsRefusedFile (holds name) reason → IsRefused ws holds reason
+refused ws holds name (reasons.NoStep n) named is = absurd is.1
+refused ws holds name reasons.TooLong named is = record { name = name; named = named; refused = is.0 }
+refused ws holds name (reasons.Read fault) named is = record { name = name; named = named; refused = is.0 }
+refused ws holds name (reasons.Attribute fault) named is = record { name = name; named = named; refused = is.0 }
+refused ws holds name (reasons.Store fault) named is = record { name = name; named = named; refused = is.0 }
+refused ws holds name reasons.NotBuilt named is = record { name = name; named = named; refused = is.0 }
+refused ws holds name (reasons.Definition n fault) named is = record { name = name; named = named; refused = is.0 }
+
+-- what comes of a replay of the file that the words name is right for them
+pub replayed : (ws : List (List ℕ)) (holds : List ℕ → Option (List ℕ)) (name : List ℕ) (limit : ℕ) (a : Answer) → IsReplay ws name limit → Replays (holds name) limit a → IsAnswer ws holds a
+replayed ws holds name limit (answers.BadWords place) asked is = absurd is
+replayed ws holds name limit answers.Help asked is = absurd is
+replayed ws holds name limit answers.Version asked is = absurd is
+replayed ws holds name limit (answers.Refused reason) asked is = (refused ws holds name reason (inl (limit, asked)) is, refl)
+replayed ws holds name limit (answers.Ran t endings.Done) asked is = (t, record { name = name; limit = limit; asked = asked; project = is.0; held = is.1; run = is.2 }, refl)
+replayed ws holds name limit (answers.Ran t endings.Limit) asked is = (t, record { name = name; limit = limit; asked = asked; project = is.0; held = is.1; run = is.2 }, refl)
+replayed ws holds name limit (answers.Shown d) asked is = absurd is
+
+not_shown : (ws : List (List ℕ)) (holds : List ℕ → Option (List ℕ)) (name : List ℕ) (n : ℕ) (reason : ProjectReason) → IsPath ws name n → Shows (holds name) n (answers.Refused reason) → IsRefused ws holds reason
+not_shown ws holds name n (reasons.NoStep m) asked is = record {
+  name = name;
+  asked = subst (λ (k : ℕ). IsPath ws name k) (sym is.0) asked;
+  absent = subst (λ (k : ℕ). IfSome (holds name) (λ bytes. (p : Project) × Holds bytes p × (is_among p.steps k ≡ false))) (sym is.0) is.1;
+}
+not_shown ws holds name n reasons.TooLong asked is = refused ws holds name reasons.TooLong (inr (n, asked)) is
+not_shown ws holds name n (reasons.Read fault) asked is = refused ws holds name (reasons.Read fault) (inr (n, asked)) is
+not_shown ws holds name n (reasons.Attribute fault) asked is = refused ws holds name (reasons.Attribute fault) (inr (n, asked)) is
+not_shown ws holds name n (reasons.Store fault) asked is = refused ws holds name (reasons.Store fault) (inr (n, asked)) is
+not_shown ws holds name n reasons.NotBuilt asked is = refused ws holds name reasons.NotBuilt (inr (n, asked)) is
+not_shown ws holds name n (reasons.Definition m fault) asked is = refused ws holds name (reasons.Definition m fault) (inr (n, asked)) is
+
+-- what comes of the path of a workingstep in the file that the words name is right for them
+pub shown : (ws : List (List ℕ)) (holds : List ℕ → Option (List ℕ)) (name : List ℕ) (n : ℕ) (a : Answer) → IsPath ws name n → Shows (holds name) n a → IsAnswer ws holds a
+shown ws holds name n (answers.BadWords place) asked is = absurd is
+shown ws holds name n answers.Help asked is = absurd is
+shown ws holds name n answers.Version asked is = absurd is
+shown ws holds name n (answers.Refused reason) asked is = (not_shown ws holds name n reason asked is, refl)
+shown ws holds name n (answers.Ran t ending) asked is = absurd is
+shown ws holds name n (answers.Shown d) asked is = inl (d, record { name = name; number = n; asked = asked; project = is.0; held = is.1; step = is.2 }, refl)
+
+-- a status and a text that are right for the words, with what was put, are an answer to the words
+pub answered : {F : Type 0} (ws : List (List ℕ)) (before after : Outside F) (a : Answer) (s : Status) → IsAnswer ws before.holds a → IsPut before.taken after.taken before.put_faults after.put_faults a s
+    → Answered ws before after s
+answered ws before after a statuses.ReadFault is put = absurd (subst (λ (s : Status). IsRight ws before.holds s (answer_text a)) put.0 is)
+answered ws before after a statuses.NoMemory is put = absurd (subst (λ (s : Status). IsRight ws before.holds s (answer_text a)) put.0 is)
+answered ws before after a statuses.WriteFault is put = (answer_status a, answer_text a, is, record { failed = put.0; front = put.1 })
+answered ws before after a statuses.Done is put = (answer_text a, subst (λ (s : Status). IsRight ws before.holds s (answer_text a)) put.0 is, put.1)
+answered ws before after a statuses.RunLimit is put = (answer_text a, subst (λ (s : Status). IsRight ws before.holds s (answer_text a)) put.0 is, put.1)
+answered ws before after a statuses.Written is put = (answer_text a, subst (λ (s : Status). IsRight ws before.holds s (answer_text a)) put.0 is, put.1)
+answered ws before after a (statuses.BadWords place) is put = (answer_text a, subst (λ (s : Status). IsRight ws before.holds s (answer_text a)) put.0 is, put.1)
+answered ws before after a (statuses.ProjectRefused reason) is put = (answer_text a, subst (λ (s : Status). IsRight ws before.holds s (answer_text a)) put.0 is, put.1)
+
+-- what comes of a replay of the named file, or why nothing does, answers the words
+pub replay_answers : (ws : List (List ℕ)) (holds : List ℕ → Option (List ℕ)) (before now : List ℕ → ℕ) (name : List ℕ) (limit : ℕ) (r : Result Answer Stop) → IsReplay ws name limit
+    → OrStops (before name) (now name) (Replays (holds name) limit) r → AnswersOrStops ws holds before now r
+replay_answers ws holds before now name limit (Ok a) asked is = replayed ws holds name limit a asked is
+replay_answers ws holds before now name limit (Err stops.ReadFault) asked is = (name, inl (limit, asked), is)
+replay_answers ws holds before now name limit (Err stops.NoMemory) asked is = tt
+
+pub path_answers : (ws : List (List ℕ)) (holds : List ℕ → Option (List ℕ)) (before now : List ℕ → ℕ) (name : List ℕ) (n : ℕ) (r : Result Answer Stop) → IsPath ws name n
+    → OrStops (before name) (now name) (Shows (holds name) n) r → AnswersOrStops ws holds before now r
+path_answers ws holds before now name n (Ok a) asked is = shown ws holds name n a asked is
+path_answers ws holds before now name n (Err stops.ReadFault) asked is = (name, inr (n, asked), is)
+path_answers ws holds before now name n (Err stops.NoMemory) asked is = tt

@@ -1,0 +1,83 @@
+-- What the words ask for, and the status and the text that are right for it.
+use Rattle.std.specs.Prelude.{◌≡◌, ◌⊎◌, ℕ, true, false, List, Option, Ok, IfSome}
+use Rattle.path_blocks.specs.declared.def.Def.{Def}
+use Rattle.path_blocks.specs.Path.{path_of}
+use Rattle.project_store.specs.Entities.{entity_at}
+use Rattle.step_def.specs.DefOf.{def_of}
+use Rattle.project_read.specs.declared.reason.ProjectReason.{ProjectReason}
+use Rattle.project_read.specs.declared.reason.ProjectReason.TheVariants.{NoStep}
+use Rattle.project_read.specs.Faults.{is_among}
+use Rattle.project_read.specs.Holds.{Project, Holds}
+use Rattle.project_read.specs.Refuses.{Refuses}
+use Rattle.run_log.specs.declared.entry.Entry.{Entry}
+use Rattle.run_log.specs.declared.entry.Ending.{Ending}
+use Rattle.run_log.specs.declared.entry.Ending.TheVariants as endings
+use Rattle.run_log.specs.LogText.{text_of}
+use Rattle.run_log.specs.BlocksText.{blocks_text}
+use Rattle.controller.specs.declared.status.Status.{Status}
+use Rattle.controller.specs.declared.status.Status.TheVariants.{Done, RunLimit, Written, BadWords, ProjectRefused, ReadFault, WriteFault, NoMemory}
+use Rattle.controller.specs.Words.{help_line, version_line, is_line, IsReplay, IsPath, NamesProject, AreBadAt}
+use Rattle.controller.specs.Texts.{bad_words_line, help_text, version_text}
+use Rattle.controller.specs.Refusal.{refusal_line}
+use Rattle.controller.specs.Run.{IsRun}
+
+-- the file of this name holds the project, where it is told what it holds
+abbrev pub HoldsProject : (List ℕ → Option (List ℕ)) → List ℕ → Project → Type 0
+HoldsProject holds name p = IfSome (holds name) (λ bytes. Holds bytes p)
+
+-- n is a workingstep of the project, with this definition
+pub record IsStep (p : Project) (n : ℕ) (d : Def) : Type 0 where
+  pub among : is_among p.steps n ≡ true
+  pub defined : def_of (entity_at p.entities) n ≡ Ok d
+
+-- the words ask for a replay, and t is the log of a legal run of the project in the file that they name, up to the limit that they name, with this ending
+pub record IsLog (words : List (List ℕ)) (holds : List ℕ → Option (List ℕ)) (t : List Entry) (ending : Ending) : Type 0 where
+  pub name : List ℕ
+  pub limit : ℕ
+  pub asked : IsReplay words name limit
+  pub project : Project
+  pub held : HoldsProject holds name project
+  pub run : IsRun project limit t ending
+
+-- the words ask for the path of a workingstep of the project in the file that they name, and this is its definition
+pub record IsDefinition (words : List (List ℕ)) (holds : List ℕ → Option (List ℕ)) (d : Def) : Type 0 where
+  pub name : List ℕ
+  pub number : ℕ
+  pub asked : IsPath words name number
+  pub project : Project
+  pub held : HoldsProject holds name project
+  pub step : IsStep project number d
+
+-- the words name a project file, and its bytes hold no project, for this reason
+pub record HasNoProject (words : List (List ℕ)) (holds : List ℕ → Option (List ℕ)) (reason : ProjectReason) : Type 0 where
+  pub name : List ℕ
+  pub named : NamesProject words name
+  pub refused : IfSome (holds name) (λ bytes. Refuses bytes reason)
+
+-- the words ask for the path of workingstep n of the project in the file that they name, and n is none of its workingsteps
+pub record HasNoStep (words : List (List ℕ)) (holds : List ℕ → Option (List ℕ)) (n : ℕ) : Type 0 where
+  pub name : List ℕ
+  pub asked : IsPath words name n
+  pub absent : IfSome (holds name) (λ bytes. (p : Project) × Holds bytes p × (is_among p.steps n ≡ false))
+
+-- why the project that the words name is refused
+abbrev pub IsRefused : List (List ℕ) → (List ℕ → Option (List ℕ)) → ProjectReason → Type 0
+IsRefused words holds (NoStep n) = HasNoStep words holds n
+IsRefused words holds reason = HasNoProject words holds reason
+
+-- what is written for the words: the path of a workingstep block by block, the commands, or the version
+abbrev pub IsWritten : List (List ℕ) → (List ℕ → Option (List ℕ)) → List ℕ → Type 0
+IsWritten words holds text =
+    ((d : Def) × IsDefinition words holds d × (text ≡ blocks_text (path_of d)))
+    ⊎ (((is_line words help_line ≡ true) × (text ≡ help_text)) ⊎ ((is_line words version_line ≡ true) × (text ≡ version_text)))
+
+-- The words, with what the files hold, have this status and this text. That a file or the sink fails, and that memory runs out, lies in neither.
+abbrev pub IsRight : List (List ℕ) → (List ℕ → Option (List ℕ)) → Status → List ℕ → Type 0
+IsRight words holds Done text = (t : List Entry) × IsLog words holds t endings.Done × (text ≡ text_of t endings.Done)
+IsRight words holds RunLimit text = (t : List Entry) × IsLog words holds t endings.Limit × (text ≡ text_of t endings.Limit)
+IsRight words holds Written text = IsWritten words holds text
+IsRight words holds (BadWords place) text = AreBadAt words place × (text ≡ bad_words_line place)
+IsRight words holds (ProjectRefused reason) text = IsRefused words holds reason × (text ≡ refusal_line reason)
+IsRight words holds ReadFault text = ⊥
+IsRight words holds WriteFault text = ⊥
+IsRight words holds NoMemory text = ⊥

@@ -1,0 +1,73 @@
+-- The line of a project's refusal, after this profile: the reason's name and its numbers.
+use Rattle.std.specs.Prelude.{ℕ, List, ◌++◌, codes, decimal}
+use Rattle.p21_lex.specs.declared.error.LexErr.{LexErr}
+use Rattle.p21_lex.specs.declared.error.LexErr.TheVariants as lexes
+use Rattle.p21_parse.specs.declared.error.ReadErr.{ReadErr}
+use Rattle.p21_parse.specs.declared.error.ReadErr.TheVariants as reads
+use Rattle.entity_read.specs.declared.error.TypeErr.{TypeErr}
+use Rattle.entity_read.specs.declared.error.TypeErr.TheVariants as types
+use Rattle.project_store.specs.declared.error.StoreErr.{StoreErr}
+use Rattle.project_store.specs.declared.error.StoreErr.TheVariants as stores
+use Rattle.step_def.specs.declared.fault.DefFault.{DefFault}
+use Rattle.step_def.specs.declared.fault.DefFault.TheVariants.{Missing, HasToolpath, BadDirection, Mismatch, NotRectangle, NotPositive, OutOfRange, ToolTooBig, TooManyBlocks}
+use Rattle.project_read.specs.declared.reason.ProjectReason.{ProjectReason}
+use Rattle.project_read.specs.declared.reason.ProjectReason.TheVariants.{TooLong, Read, Attribute, Store, NotBuilt, Definition, NoStep}
+use Rattle.controller.specs.Texts.{row}
+
+-- a name with a number behind it
+abbrev pub one : List ℕ → ℕ → List ℕ
+one name a = name ++ (codes " " ++ decimal a)
+
+-- a name with two numbers behind it
+abbrev pub two : List ℕ → ℕ → ℕ → List ℕ
+two name a b = one name a ++ (codes " " ++ decimal b)
+
+abbrev pub lex_text : LexErr → List ℕ
+lex_text (lexes.BadByte place) = one (codes "BadByte") place
+lex_text (lexes.BadName place) = one (codes "BadName") place
+lex_text (lexes.OpenString place) = one (codes "OpenString") place
+lex_text (lexes.OpenComment place) = one (codes "OpenComment") place
+lex_text (lexes.NumberTooLong place) = one (codes "NumberTooLong") place
+lex_text lexes.NoMemory = codes "NoMemory"
+
+abbrev pub read_text : ReadErr → List ℕ
+read_text (reads.Lex fault) = lex_text fault
+read_text (reads.Syntax place) = one (codes "Syntax") place
+read_text (reads.TooDeep place) = one (codes "TooDeep") place
+read_text (reads.TooMany place) = one (codes "TooMany") place
+read_text (reads.Duplicate n) = one (codes "Duplicate") n
+read_text reads.NoMemory = codes "NoMemory"
+
+abbrev pub type_text : TypeErr → List ℕ
+type_text (types.BadAttribute n position) = two (codes "BadAttribute") n position
+type_text types.NoMemory = codes "NoMemory"
+
+abbrev pub store_text : StoreErr → List ℕ
+store_text stores.NoProject = codes "NoProject"
+store_text (stores.ManyProjects n) = one (codes "ManyProjects") n
+store_text (stores.Unresolved n reference) = two (codes "Unresolved") n reference
+store_text (stores.WrongKind n position) = two (codes "WrongKind") n position
+store_text stores.NoMemory = codes "NoMemory"
+
+abbrev pub fault_text : DefFault → List ℕ
+fault_text (Missing n position) = two (codes "Missing") n position
+fault_text (HasToolpath operation) = one (codes "HasToolpath") operation
+fault_text (BadDirection n) = one (codes "BadDirection") n
+fault_text (Mismatch operation feature) = two (codes "Mismatch") operation feature
+fault_text (NotRectangle n) = one (codes "NotRectangle") n
+fault_text (NotPositive n position) = two (codes "NotPositive") n position
+fault_text (OutOfRange n position) = two (codes "OutOfRange") n position
+fault_text (ToolTooBig tool) = one (codes "ToolTooBig") tool
+fault_text (TooManyBlocks n count) = two (codes "TooManyBlocks") n count
+
+abbrev pub reason_text : ProjectReason → List ℕ
+reason_text TooLong = codes "TooLong"
+reason_text (Read fault) = read_text fault
+reason_text (Attribute fault) = type_text fault
+reason_text (Store fault) = store_text fault
+reason_text NotBuilt = codes "NotBuilt"
+reason_text (Definition n fault) = one (codes "Definition") n ++ (codes " " ++ fault_text fault)
+reason_text (NoStep n) = one (codes "NoStep") n
+
+abbrev pub refusal_line : ProjectReason → List ℕ
+refusal_line reason = row (codes "refused " ++ reason_text reason)

@@ -1,0 +1,39 @@
+-- The texts that the program writes beside logs.
+use Rattle.std.specs.Prelude.{ℕ, List, [], ◌∷◌, ◌++◌, codes, decimal}
+
+-- a line of this text
+abbrev pub row : List ℕ → List ℕ
+row text = text ++ codes "\n"
+
+-- lines of these texts
+abbrev pub rows : List (List ℕ) → List ℕ
+rows [] = []
+rows (text ∷ texts) = row text ++ rows texts
+
+-- the line of words that are bad at a place
+abbrev pub bad_words_line : ℕ → List ℕ
+bad_words_line place = row (codes "refused BadWords " ++ decimal place)
+
+-- the commands with their words, an example, and the exit statuses
+abbrev pub help_text : List ℕ
+help_text =
+    rows (codes "stepnc runs a STEP-NC project and writes its run log."
+    ∷ []
+    ∷ codes "  stepnc replay PROJECT - - LIMIT"
+    ∷ codes "      runs the project in the file PROJECT, up to LIMIT entries (1 to 2000000)"
+    ∷ codes "  stepnc path PROJECT STEP"
+    ∷ codes "      writes the path of workingstep STEP, one block a line"
+    ∷ codes "  stepnc --help"
+    ∷ codes "      writes this text"
+    ∷ codes "  stepnc --version"
+    ∷ codes "      writes the version"
+    ∷ []
+    ∷ codes "For example: stepnc replay examples/drilled_hole.stp - - 100"
+    ∷ []
+    ∷ codes "Exit status: 0 done or written, 2 stopped at the limit, 3 bad words,"
+    ∷ codes "4 project refused, 7 project file not read, 8 output not taken,"
+    ∷ codes "9 out of memory."
+    ∷ [])
+
+abbrev pub version_text : List ℕ
+version_text = row (codes "stepnc 0.1.0")

@@ -1,0 +1,83 @@
+-- The words of a command, after this profile.
+use Rattle.std.specs.Prelude.{◌≡◌, ◌⊎◌, ℕ, ◌+◌, ◌<◌, ◌≤◌, Bool, true, false, ◌&&◌, ◌==◌, nat_lt, List, [], ◌∷◌, length, take, codes}
+use Rattle.std.specs.List.{list_any}
+use Rattle.std.specs.Str.{bytes_eq}
+use Rattle.nc_base.specs.declared.numbers.TheConstants.{MAX_NUMBER}
+use Rattle.controller.specs.declared.command.TheConstants.{LIMIT_DIGITS, MAX_LIMIT, NUMBER_DIGITS}
+use Rattle.controller.specs.Numerals.{value_of, is_count}
+
+-- what a word of a command may be
+abbrev pub Form : Type 0
+Form = List ℕ → Bool
+
+-- a limit of entries
+abbrev pub is_limit : Form
+is_limit w = is_count LIMIT_DIGITS MAX_LIMIT w
+
+-- the number of an instance
+abbrev pub is_step : Form
+is_step w = is_count NUMBER_DIGITS MAX_NUMBER w
+
+-- a file name: at least one byte
+abbrev pub is_name : Form
+is_name w = nat_lt 0 (length w)
+
+-- the lines of the table
+abbrev pub replay_line : List Form
+replay_line = bytes_eq (codes "replay") ∷ is_name ∷ bytes_eq (codes "-") ∷ bytes_eq (codes "-") ∷ is_limit ∷ []
+
+abbrev pub path_line : List Form
+path_line = bytes_eq (codes "path") ∷ is_name ∷ is_step ∷ []
+
+abbrev pub help_line : List Form
+help_line = bytes_eq (codes "--help") ∷ []
+
+abbrev pub version_line : List Form
+version_line = bytes_eq (codes "--version") ∷ []
+
+abbrev pub table : List (List Form)
+table = replay_line ∷ path_line ∷ help_line ∷ version_line ∷ []
+
+-- the words begin the line
+abbrev pub begins : List (List ℕ) → List Form → Bool
+begins [] forms = true
+begins (w ∷ ws) [] = false
+begins (w ∷ ws) (form ∷ forms) = form w && begins ws forms
+
+-- the words are the line
+abbrev pub is_line : List (List ℕ) → List Form → Bool
+is_line ws forms = begins ws forms && (length ws == length forms)
+
+-- the words begin some line of the table, or are one
+abbrev pub begins_some : List (List ℕ) → Bool
+begins_some ws = list_any (begins ws) table
+
+abbrev pub is_some_line : List (List ℕ) → Bool
+is_some_line ws = list_any (is_line ws) table
+
+-- The words aren't a line of the table, and i is the least place such that words 0 to i don't begin one; where the words end too early, i is
+-- their number.
+pub record AreBadAt (ws : List (List ℕ)) (i : ℕ) : Type 0 where
+  pub no_line : is_some_line ws ≡ false
+  pub within : i ≤ length ws
+  pub begun : begins_some (take i ws) ≡ true
+  pub ended : i < length ws → begins_some (take (i + 1) ws) ≡ false
+
+-- the words are those of a replay of this project file with this limit
+abbrev pub IsReplay : List (List ℕ) → List ℕ → ℕ → Type 0
+IsReplay (w0 ∷ project ∷ w2 ∷ w3 ∷ w4 ∷ []) name limit =
+    (is_line (w0 ∷ project ∷ w2 ∷ w3 ∷ w4 ∷ []) replay_line ≡ true) × (project ≡ name) × (value_of w4 ≡ limit)
+IsReplay _ name limit = ⊥
+
+-- the words are those of the path of this workingstep of this project file
+abbrev pub IsPath : List (List ℕ) → List ℕ → ℕ → Type 0
+IsPath (w0 ∷ project ∷ w2 ∷ []) name n = (is_line (w0 ∷ project ∷ w2 ∷ []) path_line ≡ true) × (project ≡ name) × (value_of w2 ≡ n)
+IsPath _ name n = ⊥
+
+-- the words name this project file to read
+abbrev pub NamesProject : List (List ℕ) → List ℕ → Type 0
+NamesProject ws name = ((limit : ℕ) × IsReplay ws name limit) ⊎ ((n : ℕ) × IsPath ws name n)
+
+-- the words name no file to read
+abbrev pub NameNoFile : List (List ℕ) → Type 0
+NameNoFile ws = (name : List ℕ) → NamesProject ws name → ⊥

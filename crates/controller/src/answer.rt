@@ -1,0 +1,130 @@
+//! What the program answers to words, and how it says so.
+
+ghost use Rattle.std.specs.Prelude.{◌≡◌, ◌+◌, ◌≤◌, ◌<◌, ◌^◌, ◌++◌, length, OnOk, OnErr};
+ghost use Rattle.arrayvec.specs.ArrayVec.{array_vec_len};
+ghost use Rattle.nc_outside.specs.Outside.{Rose, Appends, AppendsFront};
+ghost use Rattle.path_blocks.specs.Path.{path_of};
+ghost use Rattle.run_log.specs.BlocksText.{blocks_text};
+ghost use Rattle.run_log.specs.LogText.{text_of};
+ghost use Rattle.controller.specs.Texts.{bad_words_line, help_text, version_text};
+ghost use Rattle.controller.specs.Answer.{IsCountable, answer_text, answer_status};
+
+use crate::refusal::refusal_line;
+use crate::status::Status;
+use nc_base::{Line, put, put_number};
+use nc_outside::{Failed, Sink, put_all};
+use path_blocks::Plan;
+use project_read::ProjectReason;
+use run_log::{Ending, Log};
+
+/// What the program answers, before it is written.
+#[derive(Drop)]
+pub enum Answer {
+    /// The words are bad at this place.
+    BadWords(u32),
+    /// Which commands there are.
+    Help,
+    /// Which program this is.
+    Version,
+    /// The project is refused.
+    Refused(ProjectReason),
+    /// The project ran so.
+    Ran(Log, Ending),
+    /// The workingstep has this path.
+    Shown(Plan),
+}
+
+/// Why there is no answer.
+#[derive(Clone, Copy, Debug, PartialEq, Eq)]
+pub enum Stop {
+    /// The project file could not be read.
+    ReadFault,
+    /// Memory ran out.
+    NoMemory,
+}
+
+/// Which commands there are.
+const HELP: &[u8] = b"stepnc runs a STEP-NC project and writes its run log.\n\
+    \n  \
+    stepnc replay PROJECT - - LIMIT\n      \
+    runs the project in the file PROJECT, up to LIMIT entries (1 to 2000000)\n  \
+    stepnc path PROJECT STEP\n      \
+    writes the path of workingstep STEP, one block a line\n  \
+    stepnc --help\n      \
+    writes this text\n  \
+    stepnc --version\n      \
+    writes the version\n\
+    \n\
+    For example: stepnc replay examples/drilled_hole.stp - - 100\n\
+    \n\
+    Exit status: 0 done or written, 2 stopped at the limit, 3 bad words,\n\
+    4 project refused, 7 project file not read, 8 output not taken,\n\
+    9 out of memory.\n";
+
+/// Which program this is.
+const VERSION: &[u8] = b"stepnc 0.1.0\n";
+
+/// The line of words that are bad at a place.
+fn bad_words(place: u32) -> Line
+    ensures { result.items ≡ bad_words_line place }
+{
+    let mut line = Line::new();
+    put(&mut line, b"refused BadWords");
+    put_number(&mut line, place);
+    put(&mut line, b"\n");
+    line
+}
+
+/// Writes a log.
+fn put_log<S: Sink>(log: &Log, ending: Ending, sink: &mut S) -> Result<(), Failed>
+    requires { length log.now < 2 ^ 32 }
+    ensures counted { S.faults sink.old ≤ S.faults sink.new }
+    ensures ok { OnOk result (Appends (S.taken sink.old) (S.taken sink.new) (text_of log.now ending)) }
+    ensures failed { OnErr result (Rose (S.faults sink.old) (S.faults sink.new)) }
+    ensures failed_takes_front { OnErr result (AppendsFront (S.taken sink.old) (S.taken sink.new) (text_of log.now ending)) }
+{
+    run_log::write(log.as_slice(), ending, sink).map_err(|_| Failed)
+}
+
+/// Writes the blocks of a path.
+fn put_path<S: Sink>(plan: &Plan, sink: &mut S) -> Result<(), Failed>
+    ensures counted { S.faults sink.old ≤ S.faults sink.new }
+    ensures ok { OnOk result (Appends (S.taken sink.old) (S.taken sink.new) (blocks_text (path_of plan.now))) }
+    ensures failed { OnErr result (Rose (S.faults sink.old) (S.faults sink.new)) }
+    ensures failed_takes_front { OnErr result (AppendsFront (S.taken sink.old) (S.taken sink.new) (blocks_text (path_of plan.now))) }
+{
+    run_log::write_blocks(plan.blocks(), sink).map_err(|_| Failed)
+}
+
+impl Answer {
+    /// The status of the answer, once it is written.
+    pub fn status(&self) -> Status
+        ensures { result ≡ answer_status self.now }
+    {
+        match self {
+            Answer::BadWords(place) => Status::BadWords(*place),
+            Answer::Help | Answer::Version | Answer::Shown(_) => Status::Written,
+            Answer::Refused(reason) => Status::ProjectRefused(*reason),
+            Answer::Ran(_, Ending::Done) => Status::Done,
+            Answer::Ran(_, Ending::Limit) => Status::RunLimit,
+        }
+    }
+
+    /// Writes the answer. It takes no memory.
+    pub fn write<S: Sink>(&self, sink: &mut S) -> Result<(), Failed>
+        requires { IsCountable self.now }
+        ensures counted { S.faults sink.old ≤ S.faults sink.new }
+        ensures ok { OnOk result (Appends (S.taken sink.old) (S.taken sink.new) (answer_text self.now)) }
+        ensures failed { OnErr result (Rose (S.faults sink.old) (S.faults sink.new)) }
+        ensures failed_takes_front { OnErr result (AppendsFront (S.taken sink.old) (S.taken sink.new) (answer_text self.now)) }
+    {
+        match self {
+            Answer::BadWords(place) => put_all(sink, bad_words(*place).as_slice()),
+            Answer::Help => put_all(sink, HELP),
+            Answer::Version => put_all(sink, VERSION),
+            Answer::Refused(reason) => put_all(sink, refusal_line(*reason).as_slice()),
+            Answer::Ran(log, ending) => put_log(log, *ending, sink),
+            Answer::Shown(plan) => put_path(plan, sink),
+        }
+    }
+}

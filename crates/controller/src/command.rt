@@ -1,0 +1,184 @@
+//! The commands, as the words of a command line give them.
+
+ghost use Rattle.std.specs.Prelude.{◌≡◌, ◌<◌, ◌≤◌, ℕ, List, length, slice_get, true, false, codes, MatchOption, MatchResult, option_map, Ok};
+ghost use Rattle.std.specs.Str.{bytes_eq};
+ghost use Rattle.controller.specs.Numerals.{value_of};
+ghost use Rattle.controller.specs.Words.{is_limit, is_step, is_name};
+ghost use Rattle.controller.specs.Commands.{HasWord, has_word, Ask};
+
+use crate::numerals::count_of;
+use nc_base::{MAX_NUMBER, NcText, Number};
+
+/// The most entries that a command can let a log have.
+pub const MAX_LIMIT: u32 = 2_000_000;
+
+/// How many digits a limit of entries has at most.
+pub const LIMIT_DIGITS: usize = 7;
+
+/// How many digits the number of an instance has at most.
+pub const NUMBER_DIGITS: usize = 10;
+
+/// What the words of a command ask for.
+#[derive(Clone, Copy)]
+pub enum Command<'a> {
+    /// To run the project in this file, up to so many entries of the log.
+    Replay { project: &'a NcText, limit: u32 },
+    /// To show the path of this workingstep of the project in this file.
+    Path { project: &'a NcText, step: Number },
+    /// To say which commands there are.
+    Help,
+    /// To say which program this is.
+    Version,
+}
+
+/// The word at a place, counted from 0.
+fn word_at(words: &[NcText], place: u32) -> Option<&NcText>
+    ensures { option_map (λ word. word.now) result ≡ slice_get words.now place }
+{
+    let place = place as usize;
+    if place < words.len() {
+        Some(&words[place])
+    } else {
+        None
+    }
+}
+
+/// Whether this word stands at a place.
+fn is_at(words: &[NcText], place: u32, word: &[u8]) -> bool
+    ensures { result ≡ has_word words.now place (bytes_eq word.now) }
+{
+    match word_at(words, place) {
+        Some(found) => word == found.bytes(),
+        None => false,
+    }
+}
+
+/// The file name at a place, which has at least one byte.
+///
+/// # Errors
+/// The place, where no file name stands there.
+fn name_at(words: &[NcText], place: u32) -> Result<&NcText, u32>
+    ensures { MatchResult result (λ name. HasWord words.now place is_name name.now) (λ bad. (bad ≡ place) × (has_word words.now place is_name ≡ false)) }
+{
+    match word_at(words, place) {
+        Some(name) if !name.is_empty() => Ok(name),
+        _ => Err(place),
+    }
+}
+
+/// Passes over the hyphen at a place.
+///
+/// # Errors
+/// The place, where no hyphen stands there.
+fn hyphen_at(words: &[NcText], place: u32) -> Result<(), u32>
+    ensures { MatchResult result (λ _. has_word words.now place (bytes_eq (codes "-")) ≡ true) (λ bad. (bad ≡ place) × (has_word words.now place (bytes_eq (codes "-")) ≡ false)) }
+{
+    if is_at(words, place, b"-") {
+        Ok(())
+    } else {
+        Err(place)
+    }
+}
+
+/// The limit of entries at a place: 1 to `MAX_LIMIT`.
+///
+/// # Errors
+/// The place, where no limit stands there.
+fn limit_at(words: &[NcText], place: u32) -> Result<u32, u32>
+    ensures { MatchResult result (λ limit. (w : List ℕ) × HasWord words.now place is_limit w × (limit ≡ value_of w)) (λ bad. (bad ≡ place) × (has_word words.now place is_limit ≡ false)) }
+{
+    match word_at(words, place) {
+        Some(word) => count_of(word.bytes(), LIMIT_DIGITS, MAX_LIMIT).ok_or(place),
+        None => Err(place),
+    }
+}
+
+/// The number of an instance at a place: 1 to `MAX_NUMBER`.
+///
+/// # Errors
+/// The place, where no such number stands there.
+fn step_at(words: &[NcText], place: u32) -> Result<Number, u32>
+    ensures { MatchResult result (λ step. (w : List ℕ) × HasWord words.now place is_step w × (step ≡ value_of w)) (λ bad. (bad ≡ place) × (has_word words.now place is_step ≡ false)) }
+{
+    match word_at(words, place) {
+        Some(word) => count_of(word.bytes(), NUMBER_DIGITS, MAX_NUMBER).ok_or(place),
+        None => Err(place),
+    }
+}
+
+/// Sees that the words end before a place.
+///
+/// # Errors
+/// The place, where a word stands there.
+fn end_at(words: &[NcText], place: u32) -> Result<(), u32>
+    ensures { MatchResult result (λ _. length words.now ≤ place) (λ bad. (bad ≡ place) × (place < length words.now)) }
+{
+    if words.len() <= place as usize {
+        Ok(())
+    } else {
+        Err(place)
+    }
+}
+
+/// What words ask for whose first is `replay`.
+fn replay_of(words: &[NcText]) -> Result<Command<'_>, u32>
+    requires { has_word words.now 0 (bytes_eq (codes "replay")) ≡ true }
+    ensures { Ask words.now result }
+{
+    let project = name_at(words, 1)?;
+    hyphen_at(words, 2)?;
+    hyphen_at(words, 3)?;
+    let limit = limit_at(words, 4)?;
+    end_at(words, 5)?;
+    Ok(Command::Replay { project, limit })
+}
+
+/// What words ask for whose first is `path`.
+fn path_of(words: &[NcText]) -> Result<Command<'_>, u32>
+    requires { has_word words.now 0 (bytes_eq (codes "path")) ≡ true }
+    ensures { Ask words.now result }
+{
+    let project = name_at(words, 1)?;
+    let step = step_at(words, 2)?;
+    end_at(words, 3)?;
+    Ok(Command::Path { project, step })
+}
+
+/// What words ask for whose first is `--help`.
+fn help_of(words: &[NcText]) -> Result<Command<'_>, u32>
+    requires { has_word words.now 0 (bytes_eq (codes "--help")) ≡ true }
+    ensures { Ask words.now result }
+{
+    end_at(words, 1)?;
+    Ok(Command::Help)
+}
+
+/// What words ask for whose first is `--version`.
+fn version_of(words: &[NcText]) -> Result<Command<'_>, u32>
+    requires { has_word words.now 0 (bytes_eq (codes "--version")) ≡ true }
+    ensures { Ask words.now result }
+{
+    end_at(words, 1)?;
+    Ok(Command::Version)
+}
+
+/// What the words ask for.
+///
+/// # Errors
+/// The place at which they are bad: the least place up to which, that place included, they begin no line of the table of commands;
+/// where they end too early, it is their number.
+pub fn command_of(words: &[NcText]) -> Result<Command<'_>, u32>
+    ensures { Ask words.now result }
+{
+    if is_at(words, 0, b"replay") {
+        replay_of(words)
+    } else if is_at(words, 0, b"path") {
+        path_of(words)
+    } else if is_at(words, 0, b"--help") {
+        help_of(words)
+    } else if is_at(words, 0, b"--version") {
+        version_of(words)
+    } else {
+        Err(0)
+    }
+}

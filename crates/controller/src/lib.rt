@@ -1,0 +1,27 @@
+//! All that the program stepnc does: the words of a command are read, its project file is read, run or shown, and the answer is written
+//! into a sink. `top` and `quick` are the calls; everything they say of an answer is the definition `Serves`.
+//!
+//! | module | what is in it | calls |
+//! |---|---|---|
+//! | top_calls | the calls | `top`, `quick` |
+//! | status | how a call ended, and its exit status | `Status` |
+//! | command, numerals | the words of a command | |
+//! | project_file | the project that a file holds | |
+//! | replaying, showing | what the commands do with a project | |
+//! | answer, refusal | an answer before it is written, and its text | |
+//!
+//! Its tests stand in the crate controller_tests.
+#![tactic(auto)]
+
+mod answer;
+mod command;
+mod numerals;
+mod project_file;
+mod refusal;
+mod replaying;
+mod showing;
+mod status;
+mod top_calls;
+
+pub use status::Status;
+pub use top_calls::{quick, top};

@@ -1,0 +1,66 @@
+//! The path of a workingstep.
+
+ghost use Rattle.std.specs.Prelude.{◌≡◌, ℕ, ◌≤◌, List, false, MatchOption, IfOk};
+ghost use Rattle.project_read.specs.Faults.{is_among};
+ghost use Rattle.project_read.specs.Reads.{model_of, HaveDefs};
+ghost use Rattle.controller.specs.Answer.{IsCountable};
+ghost use Rattle.controller.specs.Asked.{IsStep};
+ghost use Rattle.controller.specs.ProjectFile.{OrStops, Shows, ShowsStep};
+
+use crate::answer::{Answer, Stop};
+use crate::project_file::project_at;
+use nc_base::{NcText, NoMemory, Number};
+use nc_outside::Files;
+use path_blocks::Def;
+use project_read::{Project, ProjectReason};
+use run_core::plan_of;
+use std::alloc::Global;
+
+/// The definition of the project's workingstep `n`.
+fn definition_in(project: &Project, n: Number) -> Option<&Def>
+    requires { HaveDefs project.now.store project.now.steps.items }
+    ensures { MatchOption result (is_among (model_of project.now).steps n ≡ false) (λ def. IsStep (model_of project.now) n def.now) }
+{
+    for step in project.steps.as_slice() {
+        if step.number == n {
+            return Some(&step.def);
+        }
+    }
+    None
+}
+
+/// The path of the project's workingstep `n`, or that it has no such workingstep.
+fn step_path(alloc: Global, project: &Project, n: Number) -> Result<Answer, NoMemory>
+    requires { HaveDefs project.now.store project.now.steps.items }
+    ensures shows { IfOk result (ShowsStep (model_of project.now) n) }
+    ensures countable { IfOk result IsCountable }
+{
+    match definition_in(project, n) {
+        Some(def) => Ok(Answer::Shown(plan_of(alloc, def)?)),
+        None => Ok(Answer::Refused(ProjectReason::NoStep(n))),
+    }
+}
+
+/// Reads a project file and shows the path of its project's workingstep `n`.
+///
+/// # Errors
+/// The file could not be read, or memory ran out.
+pub fn show_file<F: Files>(
+    alloc: Global,
+    name: &NcText,
+    n: Number,
+    files: &mut F,
+) -> Result<Answer, Stop>
+    ensures kept { (n : List ℕ) → F.holds files.new n ≡ F.holds files.old n }
+    ensures counted { (n : List ℕ) → F.faults files.old n ≤ F.faults files.new n }
+    ensures countable { IfOk result IsCountable }
+    ensures answer { OrStops (F.faults files.old name.now) (F.faults files.new name.now) (Shows (F.holds files.old name.now) n) result }
+{
+    match project_at(alloc, name, files) {
+        Ok(project) => match step_path(alloc, &project, n) {
+            Ok(answer) => Ok(answer),
+            Err(NoMemory) => Err(Stop::NoMemory),
+        },
+        Err(unheld) => unheld.answer(),
+    }
+}

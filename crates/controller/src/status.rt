@@ -1,0 +1,44 @@
+//! How a command ended.
+
+ghost use Rattle.std.specs.Prelude.{◌≡◌};
+ghost use Rattle.controller.specs.Codes.{code_of};
+
+use project_read::ProjectReason;
+
+/// How a command ended.
+#[derive(Clone, Copy, Debug, PartialEq, Eq)]
+pub enum Status {
+    /// The whole project ran, and its log is written.
+    Done,
+    /// The log has as many entries as the words let it have, the run could go on, and the log is written.
+    RunLimit,
+    /// What the words asked for is written.
+    Written,
+    /// The words aren't a line of the table: with them up to this place, counted from 0, none begins.
+    BadWords(u32),
+    /// The project is refused.
+    ProjectRefused(ProjectReason),
+    /// The project file could not be read. Nothing is written.
+    ReadFault,
+    /// The sink failed. It has a front of what was to be written.
+    WriteFault,
+    /// Memory ran out. Nothing is written.
+    NoMemory,
+}
+
+impl Status {
+    /// The exit status of the program, 0 to 9.
+    pub fn code(&self) -> u8
+        ensures { result ≡ code_of self.now }
+    {
+        match self {
+            Status::Done | Status::Written => 0,
+            Status::RunLimit => 2,
+            Status::BadWords(_) => 3,
+            Status::ProjectRefused(_) => 4,
+            Status::ReadFault => 7,
+            Status::WriteFault => 8,
+            Status::NoMemory => 9,
+        }
+    }
+}

@@ -1,0 +1,76 @@
+//! The top calls: all that the program does.
+
+ghost use Rattle.std.specs.Prelude.{◌≡◌, ℕ, ◌≤◌, List, IfOk};
+ghost use Rattle.controller.specs.Answer.{IsCountable};
+ghost use Rattle.controller.specs.Answered.{Serves};
+ghost use Rattle.controller.specs.Outside.{outside};
+ghost use Rattle.controller.specs.ProjectFile.{AnswersOrStops, IsPut};
+ghost use Rattle.controller.specs.Words.{NameNoFile};
+
+use crate::answer::{Answer, Stop};
+use crate::command::{Command, command_of};
+use crate::replaying::replay_file;
+use crate::showing::show_file;
+use crate::status::Status;
+use nc_base::NcText;
+use nc_outside::{Files, Gate, Sink};
+use std::alloc::Global;
+
+/// The answer to the words.
+fn answer_to<F: Files>(alloc: Global, words: &[NcText], files: &mut F) -> Result<Answer, Stop>
+    ensures kept { (n : List ℕ) → F.holds files.new n ≡ F.holds files.old n }
+    ensures counted { (n : List ℕ) → F.faults files.old n ≤ F.faults files.new n }
+    ensures countable { IfOk result IsCountable }
+    ensures untouched { NameNoFile words.now → files.new ≡ files.old }
+    ensures answer { AnswersOrStops words.now (F.holds files.old) (F.faults files.old) (F.faults files.new) result }
+{
+    match command_of(words) {
+        Ok(Command::Replay { project, limit }) => replay_file(alloc, project, limit, files),
+        Ok(Command::Path { project, step }) => show_file(alloc, project, step, files),
+        Ok(Command::Help) => Ok(Answer::Help),
+        Ok(Command::Version) => Ok(Answer::Version),
+        Err(place) => Ok(Answer::BadWords(place)),
+    }
+}
+
+/// Writes an answer, and says its status.
+fn say<S: Sink>(answer: &Answer, sink: &mut S) -> Status
+    requires { IsCountable answer.now }
+    ensures counted { S.faults sink.old ≤ S.faults sink.new }
+    ensures said { IsPut (S.taken sink.old) (S.taken sink.new) (S.faults sink.old) (S.faults sink.new) answer.now result }
+{
+    if answer.write(sink).is_err() {
+        return Status::WriteFault;
+    }
+    answer.status()
+}
+
+/// Does what the words ask for: it needs neither threads nor a wait, and always returns. What it answers and has written is right for the
+/// words and the files: of a project that can be run the log of a legal run.
+pub fn quick<F: Files, S: Sink>(
+    alloc: Global,
+    words: &[NcText],
+    files: &mut F,
+    sink: &mut S,
+) -> Status
+    ensures { Serves words.now (outside F.holds F.faults S.taken S.faults files.old sink.old) (outside F.holds F.faults S.taken S.faults files.new sink.new) result }
+{
+    match answer_to(alloc, words, files) {
+        Ok(answer) => say(&answer, sink),
+        Err(Stop::ReadFault) => Status::ReadFault,
+        Err(Stop::NoMemory) => Status::NoMemory,
+    }
+}
+
+/// All that the program does. No command needs threads yet, so `quick` serves each, and the gate is never passed.
+pub fn top<R: AllocGlobal, F: Files, S: Sink, G: Gate>(
+    rt: &R,
+    words: &[NcText],
+    files: &mut F,
+    sink: &mut S,
+    _gate: &G,
+) -> Status
+    ensures { Serves words.now (outside F.holds F.faults S.taken S.faults files.old sink.old) (outside F.holds F.faults S.taken S.faults files.new sink.new) result }
+{
+    quick(rt.alloc(), words, files, sink)
+}

@@ -1,5 +1,0 @@
-pub mod Digits
-pub mod Beginnings
-pub mod Running
-pub mod Showing
-pub mod Saying

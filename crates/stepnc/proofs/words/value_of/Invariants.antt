@@ -1,9 +1,0 @@
-use Rattle.std.proofs.Common.{◌≡◌, ◌^◌, ◌<◌, take}
-use Rattle.stepnc.specs.Words.{value_of}
-use Rattle.stepnc.proofs.words.value_of.Given as goal
-
-abbrev pub invariant-loop-digit : goal.invariant-loop-digit
-invariant-loop-digit l = record {
-  so_far : l.value ≡ value_of (take l.digit-index l.digits);
-  bound : l.value < 10 ^ l.digit-index;
-}

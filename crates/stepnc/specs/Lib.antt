@@ -1,9 +1,0 @@
-pub mod Words
-pub mod Commands
-pub mod Texts
-pub mod Refusal
-pub mod Codes
-pub mod Run
-pub mod Answer
-pub mod Sources
-pub mod Answered
