@@ -1,5 +1,5 @@
 -- How the program keeps an answer until it is written: its status and its text.
-use Rattle.std.specs.Prelude.{ℕ, ◌<◌, ◌^◌, List, length}
+use Rattle.std.specs.Prelude.{ℕ, List}
 use Rattle.path_blocks.specs.Path.{path_of}
 use Rattle.run_log.specs.declared.entry.Ending.{Ending}
 use Rattle.run_log.specs.declared.entry.Ending.TheVariants as endings
@@ -11,11 +11,6 @@ use Rattle.controller.specs.declared.status.Status.{Status}
 use Rattle.controller.specs.declared.status.Status.TheVariants as statuses
 use Rattle.controller.specs.Texts.{bad_words_line, help_text, version_text}
 use Rattle.controller.specs.Refusal.{refusal_line}
-
--- the entries of its log can be counted
-abbrev pub IsCountable : Answer → Type 0
-IsCountable (Ran t ending) = length t < 2 ^ 32
-IsCountable _ = Unit {0}
 
 -- the bytes that say an answer
 abbrev pub answer_text : Answer → List ℕ

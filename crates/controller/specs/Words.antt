@@ -3,7 +3,8 @@ use Rattle.std.specs.Prelude.{◌≡◌, ◌⊎◌, ℕ, ◌+◌, ◌<◌, ◌�
 use Rattle.std.specs.List.{list_any}
 use Rattle.std.specs.Str.{bytes_eq}
 use Rattle.nc_base.specs.declared.numbers.TheConstants.{MAX_NUMBER}
-use Rattle.controller.specs.declared.command.TheConstants.{LIMIT_DIGITS, MAX_LIMIT, NUMBER_DIGITS}
+use Rattle.controller.specs.declared.command.TheConstants.{LIMIT_DIGITS, NUMBER_DIGITS}
+use Rattle.run_log.specs.declared.entry.TheConstants.{MAX_ENTRIES}
 use Rattle.controller.specs.Numerals.{value_of, is_count}
 
 -- what a word of a command may be
@@ -12,7 +13,7 @@ Form = List ℕ → Bool
 
 -- a limit of entries
 abbrev pub is_limit : Form
-is_limit w = is_count LIMIT_DIGITS MAX_LIMIT w
+is_limit w = is_count LIMIT_DIGITS MAX_ENTRIES w
 
 -- the number of an instance
 abbrev pub is_step : Form

@@ -7,7 +7,7 @@ ghost use Rattle.path_blocks.specs.Path.{path_of};
 ghost use Rattle.run_log.specs.BlocksText.{blocks_text};
 ghost use Rattle.run_log.specs.LogText.{text_of};
 ghost use Rattle.controller.specs.Texts.{bad_words_line, help_text, version_text};
-ghost use Rattle.controller.specs.Answer.{IsCountable, answer_text, answer_status};
+ghost use Rattle.controller.specs.Answer.{answer_text, answer_status};
 
 use crate::refusal::refusal_line;
 use crate::status::Status;
@@ -77,13 +77,12 @@ fn bad_words(place: u32) -> Line
 
 /// Writes a log.
 fn put_log<S: Sink>(log: &Log, ending: Ending, sink: &mut S) -> Result<(), Failed>
-    requires { length log.now < 2 ^ 32 }
     ensures counted { S.faults sink.old ≤ S.faults sink.new }
     ensures ok { OnOk result (Appends (S.taken sink.old) (S.taken sink.new) (text_of log.now ending)) }
     ensures failed { OnErr result (Rose (S.faults sink.old) (S.faults sink.new)) }
     ensures failed_takes_front { OnErr result (AppendsFront (S.taken sink.old) (S.taken sink.new) (text_of log.now ending)) }
 {
-    run_log::write(log.as_slice(), ending, sink).map_err(|_| Failed)
+    run_log::write(log, ending, sink).map_err(|_| Failed)
 }
 
 /// Writes the blocks of a path.
@@ -112,7 +111,6 @@ impl Answer {
 
     /// Writes the answer. It takes no memory.
     pub fn write<S: Sink>(&self, sink: &mut S) -> Result<(), Failed>
-        requires { IsCountable self.now }
         ensures counted { S.faults sink.old ≤ S.faults sink.new }
         ensures ok { OnOk result (Appends (S.taken sink.old) (S.taken sink.new) (answer_text self.now)) }
         ensures failed { OnErr result (Rose (S.faults sink.old) (S.faults sink.new)) }

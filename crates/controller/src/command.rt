@@ -8,9 +8,7 @@ ghost use Rattle.controller.specs.Commands.{HasWord, has_word, Ask};
 
 use crate::numerals::count_of;
 use nc_base::{MAX_NUMBER, NcText, Number};
-
-/// The most entries that a command can let a log have.
-pub const MAX_LIMIT: u32 = 2_000_000;
+use run_log::MAX_ENTRIES;
 
 /// How many digits a limit of entries has at most.
 pub const LIMIT_DIGITS: usize = 7;
@@ -80,7 +78,7 @@ fn hyphen_at(words: &[NcText], place: u32) -> Result<(), u32>
     }
 }
 
-/// The limit of entries at a place: 1 to `MAX_LIMIT`.
+/// The limit of entries at a place: 1 to `MAX_ENTRIES`.
 ///
 /// # Errors
 /// The place, where no limit stands there.
@@ -88,7 +86,7 @@ fn limit_at(words: &[NcText], place: u32) -> Result<u32, u32>
     ensures { MatchResult result (λ limit. (w : List ℕ) × HasWord words.now place is_limit w × (limit ≡ value_of w)) (λ bad. (bad ≡ place) × (has_word words.now place is_limit ≡ false)) }
 {
     match word_at(words, place) {
-        Some(word) => count_of(word.bytes(), LIMIT_DIGITS, MAX_LIMIT).ok_or(place),
+        Some(word) => count_of(word.bytes(), LIMIT_DIGITS, MAX_ENTRIES).ok_or(place),
         None => Err(place),
     }
 }

@@ -6,11 +6,8 @@ ghost use Rattle.controller.specs.ProjectFile.{ReadsFile, answer_without};
 use crate::answer::{Answer, Stop};
 use nc_base::NcText;
 use nc_outside::{FileErr, Files};
-use project_read::{Project, ProjectErr, ProjectReason, project_in};
+use project_read::{MAX_PROJECT_BYTES, Project, ProjectErr, ProjectReason, project_in};
 use std::alloc::Global;
-
-/// How many bytes a project file has at most.
-const MAX_FILE_BYTES: u32 = 16_777_216;
 
 /// Why a file gave no project.
 #[derive(Clone, Copy, Debug, PartialEq, Eq)]
@@ -43,7 +40,7 @@ pub fn project_at<F: Files>(alloc: Global, name: &NcText, files: &mut F) -> Resu
     ensures project { ReadsFile (F.holds files.old name.now) (F.faults files.old name.now) (F.faults files.new name.now) result }
 {
     let mut room = Vec::new(alloc);
-    match files.read(name, &mut room, MAX_FILE_BYTES) {
+    match files.read(name, &mut room, MAX_PROJECT_BYTES as u32) {
         Ok(()) => match project_in(alloc, room.as_slice()) {
             Ok(project) => Ok(project),
             Err(ProjectErr::Refused(reason)) => Err(Unheld::Refused(reason)),

@@ -3,7 +3,6 @@
 ghost use Rattle.std.specs.Prelude.{◌≡◌, ℕ, ◌≤◌, ◌<◌, ◌^◌, List, length, nat_eq, IfOk};
 ghost use Rattle.std.specs.List.{IsDistinct};
 ghost use Rattle.project_read.specs.Reads.{model_of, HaveDefs};
-ghost use Rattle.controller.specs.Answer.{IsCountable};
 ghost use Rattle.controller.specs.Run.{IsRun};
 ghost use Rattle.controller.specs.ProjectFile.{OrStops, Replays};
 
@@ -20,8 +19,7 @@ use std::alloc::Global;
 fn run_of(alloc: Global, project: &Project, limit: u32) -> Result<(Log, Ending), NoMemory>
     requires distinct { IsDistinct nat_eq (model_of project.now).steps }
     requires defined { HaveDefs project.now.store project.now.steps.items }
-    ensures run { IfOk result (λ ran. IsRun (model_of project.now) limit ran.0 ran.1) }
-    ensures countable { IfOk result (λ ran. length ran.0 < 2 ^ 32) }
+    ensures { IfOk result (λ ran. IsRun (model_of project.now) limit ran.0 ran.1) }
 {
     run(alloc, project.steps.as_slice(), limit)
 }
@@ -38,7 +36,6 @@ pub fn replay_file<F: Files>(
 ) -> Result<Answer, Stop>
     ensures kept { (n : List ℕ) → F.holds files.new n ≡ F.holds files.old n }
     ensures counted { (n : List ℕ) → F.faults files.old n ≤ F.faults files.new n }
-    ensures countable { IfOk result IsCountable }
     ensures answer { OrStops (F.faults files.old name.now) (F.faults files.new name.now) (Replays (F.holds files.old name.now) limit) result }
 {
     match project_at(alloc, name, files) {

@@ -3,7 +3,6 @@
 ghost use Rattle.std.specs.Prelude.{◌≡◌, ℕ, ◌≤◌, List, false, MatchOption, IfOk};
 ghost use Rattle.project_read.specs.Faults.{is_among};
 ghost use Rattle.project_read.specs.Reads.{model_of, HaveDefs};
-ghost use Rattle.controller.specs.Answer.{IsCountable};
 ghost use Rattle.controller.specs.Asked.{IsStep};
 ghost use Rattle.controller.specs.ProjectFile.{OrStops, Shows, ShowsStep};
 
@@ -33,7 +32,6 @@ fn definition_in(project: &Project, n: Number) -> Option<&Def>
 fn step_path(alloc: Global, project: &Project, n: Number) -> Result<Answer, NoMemory>
     requires { HaveDefs project.now.store project.now.steps.items }
     ensures shows { IfOk result (ShowsStep (model_of project.now) n) }
-    ensures countable { IfOk result IsCountable }
 {
     match definition_in(project, n) {
         Some(def) => Ok(Answer::Shown(plan_of(alloc, def)?)),
@@ -53,7 +51,6 @@ pub fn show_file<F: Files>(
 ) -> Result<Answer, Stop>
     ensures kept { (n : List ℕ) → F.holds files.new n ≡ F.holds files.old n }
     ensures counted { (n : List ℕ) → F.faults files.old n ≤ F.faults files.new n }
-    ensures countable { IfOk result IsCountable }
     ensures answer { OrStops (F.faults files.old name.now) (F.faults files.new name.now) (Shows (F.holds files.old name.now) n) result }
 {
     match project_at(alloc, name, files) {

@@ -1,7 +1,6 @@
 //! The top calls: all that the program does.
 
 ghost use Rattle.std.specs.Prelude.{◌≡◌, ℕ, ◌≤◌, List, IfOk};
-ghost use Rattle.controller.specs.Answer.{IsCountable};
 ghost use Rattle.controller.specs.Answered.{Serves};
 ghost use Rattle.controller.specs.Outside.{outside};
 ghost use Rattle.controller.specs.ProjectFile.{AnswersOrStops, IsPut};
@@ -20,7 +19,6 @@ use std::alloc::Global;
 fn answer_to<F: Files>(alloc: Global, words: &[NcText], files: &mut F) -> Result<Answer, Stop>
     ensures kept { (n : List ℕ) → F.holds files.new n ≡ F.holds files.old n }
     ensures counted { (n : List ℕ) → F.faults files.old n ≤ F.faults files.new n }
-    ensures countable { IfOk result IsCountable }
     ensures untouched { NameNoFile words.now → files.new ≡ files.old }
     ensures answer { AnswersOrStops words.now (F.holds files.old) (F.faults files.old) (F.faults files.new) result }
 {
@@ -35,7 +33,6 @@ fn answer_to<F: Files>(alloc: Global, words: &[NcText], files: &mut F) -> Result
 
 /// Writes an answer, and says its status.
 fn say<S: Sink>(answer: &Answer, sink: &mut S) -> Status
-    requires { IsCountable answer.now }
     ensures counted { S.faults sink.old ≤ S.faults sink.new }
     ensures said { IsPut (S.taken sink.old) (S.taken sink.new) (S.faults sink.old) (S.faults sink.new) answer.now result }
 {

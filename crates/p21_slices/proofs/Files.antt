@@ -2,6 +2,7 @@
 use Rattle.std.proofs.Common.{◌≡◌, ℕ, ◌≤◌, nat_eq, List, [], ◌∷◌, ◌++◌, length, map, refl, sym, ap, ◌∙◌, arith}
 use Rattle.std.specs.List.{AllByRecursion, IsDistinct}
 use Rattle.p21_lex.specs.declared.token.Token.{Token}
+use Rattle.p21_parse.specs.declared.limits.TheConstants.{MAX_NESTING, MAX_INSTANCES}
 use Rattle.p21_parse.specs.Tree.{PartTree, InstanceTree, ExchangeTree}
 use Rattle.p21_parse.specs.Symbol.{Symbol, semicolon, symbols}
 use Rattle.p21_parse.specs.Spell.{spell_all, spell_instance, spell_entry, spell_file}
@@ -47,14 +48,14 @@ are_more : (xs ys : List InstanceTree) → AllByRecursion IsInstance xs → AllB
 are_more [] ys xa ya = ya
 are_more (x ∷ xs) ys xa ya = (xa.0, are_more xs ys xa.1 ya)
 
-greatest_more : (xs ys : List InstanceTree) → greatest instance_nesting xs ≤ 32 → greatest instance_nesting ys ≤ 32 → greatest instance_nesting (xs ++ ys) ≤ 32
+greatest_more : (xs ys : List InstanceTree) → greatest instance_nesting xs ≤ MAX_NESTING → greatest instance_nesting ys ≤ MAX_NESTING → greatest instance_nesting (xs ++ ys) ≤ MAX_NESTING
 greatest_more [] ys xa ya = ya
 greatest_more (x ∷ xs) ys xa ya = let more = greatest_more xs ys (omega (arith, xa)) ya in omega (arith, xa, more)
 
 grammar_more : (x : ExchangeTree) (ys : List InstanceTree) → IsExchange x → AllByRecursion IsInstance ys → IsExchange (with_items x ys)
 grammar_more x ys is are = record { head = is.head; items = are_more x.items ys is.items are }
 
-shallow_more : (x : ExchangeTree) (ys : List InstanceTree) → exchange_nesting x ≤ 32 → greatest instance_nesting ys ≤ 32 → exchange_nesting (with_items x ys) ≤ 32
+shallow_more : (x : ExchangeTree) (ys : List InstanceTree) → exchange_nesting x ≤ MAX_NESTING → greatest instance_nesting ys ≤ MAX_NESTING → exchange_nesting (with_items x ys) ≤ MAX_NESTING
 shallow_more x ys is are = let more = greatest_more x.items ys (omega (arith, is)) are in omega (arith, is, more)
 
 -- ---- tokens
@@ -100,7 +101,7 @@ more front slice x items f ends s last =
     }
 
 pub whole : (front slice : List ℕ) (x : ExchangeTree) (items : List InstanceTree) → IsFront front x → IsSlice slice items spell_last
-    → length (with_items x items).items ≤ 200000 → IsDistinct nat_eq (map own_number_of (with_items x items).items) → IsText (front ++ slice) (with_items x items)
+    → length (with_items x items).items ≤ MAX_INSTANCES → IsDistinct nat_eq (map own_number_of (with_items x items).items) → IsText (front ++ slice) (with_items x items)
 whole front slice x items f s few distinct =
     let ts = f.well.tokens in
     let us = s.tokens in

@@ -3,6 +3,7 @@ use Rattle.std.specs.Prelude.{◌≡◌, ◌≤◌, ℕ, List, [], ◌++◌}
 use Rattle.std.specs.List.{AllByRecursion}
 use Rattle.p21_lex.specs.declared.token.Token.{Token}
 use Rattle.p21_lex.specs.Reading.{Reads, IsToken}
+use Rattle.p21_parse.specs.declared.limits.TheConstants.{MAX_NESTING}
 use Rattle.p21_parse.specs.Tree.{InstanceTree, ExchangeTree}
 use Rattle.p21_parse.specs.Symbol.{Symbol, symbols}
 use Rattle.p21_parse.specs.Spell.{spell_all, spell_instance}
@@ -28,7 +29,7 @@ pub record IsFront (front : List ℕ) (x : ExchangeTree) : Type 0 where
   pub inside : AllByRecursion (IsToken front) well.tokens
   pub spells : symbols front well.tokens ≡ spell_start x.head (spell_all spell_instance x.items [])
   pub grammar : IsExchange x
-  pub shallow : exchange_nesting x ≤ 32
+  pub shallow : exchange_nesting x ≤ MAX_NESTING
 
 -- A slice of whole instances, and then what ends it.
 pub record IsSlice (slice : List ℕ) (items : List InstanceTree) (end : List Symbol → List Symbol) : Type 0 where
@@ -37,7 +38,7 @@ pub record IsSlice (slice : List ℕ) (items : List InstanceTree) (end : List Sy
   pub inside : AllByRecursion (IsToken slice) tokens
   pub spells : symbols slice tokens ≡ spell_all spell_instance items (end [])
   pub grammar : AllByRecursion IsInstance items
-  pub shallow : greatest instance_nesting items ≤ 32
+  pub shallow : greatest instance_nesting items ≤ MAX_NESTING
 
 -- A slice of whole instances, which ends behind a semicolon.
 pub record IsWhole (slice : List ℕ) (items : List InstanceTree) : Type 0 where

@@ -4,6 +4,7 @@ ghost use Rattle.std.specs.Prelude.{◌≡◌, ◌≤◌, ℕ, List, ◌++◌, l
 ghost use Rattle.std.specs.List.{IsDistinct};
 ghost use Rattle.p21_parse.specs.Tree.{InstanceTree, ExchangeTree};
 ghost use Rattle.p21_parse.specs.Allowed.{own_number_of};
+ghost use Rattle.p21_parse.specs.declared.limits.TheConstants.{MAX_INSTANCES};
 ghost use Rattle.p21_parse.specs.Text.{IsText};
 ghost use Rattle.p21_parse.specs.Source.{spell_last};
 ghost use Rattle.p21_join.specs.Join.{EndsInSemicolon, LastIsSemicolon};
@@ -17,6 +18,6 @@ pub fn slice_laws()
     // Where the rest is what ends a file, perhaps behind further instances, both together are a file, within the limits of its names.
     ensures whole { (front slice : List ℕ) (x : ExchangeTree) (items : List InstanceTree)
         → IsFront front x → IsSlice slice items spell_last
-        → length (with_items x items).items ≤ 200000 → IsDistinct nat_eq (map own_number_of (with_items x items).items)
+        → length (with_items x items).items ≤ MAX_INSTANCES → IsDistinct nat_eq (map own_number_of (with_items x items).items)
         → IsText (front ++ slice) (with_items x items) }
 {}

@@ -12,15 +12,12 @@ ghost use Rattle.p21_slices.specs.Slices.{IsFront, IsSlice, IsWhole};
 
 use nc_base::NoMemory;
 use p21_join::{ends_in_semicolon, last_is_semicolon};
-use p21_lex::{LexErr, Token, TokenKind, slice_tokens, tokens};
-use p21_parse::{Exchange, InstanceList, ReadErr, instances, read};
+use p21_lex::{LexErr, MAX_TEXT, Token, TokenKind, slice_tokens, tokens};
+use p21_parse::{Exchange, InstanceList, MAX_INSTANCES, ReadErr, instances, read};
 use std::alloc::Global;
 
 /// The most bytes of a file that is read slice by slice: with an end put behind it, it is a text still.
-pub const MAX_FILE: usize = 268_435_432;
-
-/// More instances than any file may have.
-const MOST: u32 = 200_000;
+pub const MAX_FILE: usize = MAX_TEXT as usize - END_BYTES;
 
 /// How many bytes a slice has at least, where the text has so many: enough that a slice's own costs don't matter, and few enough that its tokens
 /// and trees stay in a processor's cache.
@@ -31,6 +28,9 @@ const DATA: &[u8] = b"DATA";
 
 /// What ends a file.
 const END: &[u8] = b"ENDSEC;END-ISO-10303-21;";
+
+/// How many bytes that has.
+const END_BYTES: usize = 24;
 
 /// How many tokens end a file.
 const END_TOKENS: usize = 4;
@@ -44,7 +44,7 @@ pub struct Front {
 
 /// The tokens of bytes that have some.
 fn listed(alloc: Global, bytes: &[u8]) -> Result<Option<Vec<Token>>, NoMemory>
-    requires { length bytes.now ≤ 268435456 }
+    requires { length bytes.now ≤ MAX_TEXT }
     ensures exact { IfOk result (λ r. IfSome r (λ v. tokens_of bytes.now ≡ Ok v.items)) }
     ensures inside { IfOk result (λ r. IfSome r (λ v. AllByRecursion (IsToken bytes.now) v.items)) }
 {
@@ -57,7 +57,7 @@ fn listed(alloc: Global, bytes: &[u8]) -> Result<Option<Vec<Token>>, NoMemory>
 
 /// The instances of a slice with these tokens, if it is made of whole ones.
 fn whole(alloc: Global, slice: &[u8], found: &[Token]) -> Result<Option<InstanceList>, NoMemory>
-    requires short { length slice.now ≤ 268435456 }
+    requires short { length slice.now ≤ MAX_TEXT }
     requires exact { tokens_of slice.now ≡ Ok found.now }
     requires inside { AllByRecursion (IsToken slice.now) found.now }
     ensures { IfOk result (λ r. IfSome r (λ items. IsWhole slice.now (map instance_of items))) }
@@ -65,7 +65,7 @@ fn whole(alloc: Global, slice: &[u8], found: &[Token]) -> Result<Option<Instance
     if !ends_in_semicolon(slice) || !last_is_semicolon(found) {
         return Ok(None);
     }
-    match instances(alloc, slice, found, 0, MOST) {
+    match instances(alloc, slice, found, 0, MAX_INSTANCES as u32) {
         Ok((items, next)) => {
             if next as usize != found.len() {
                 return Ok(None);
@@ -79,7 +79,7 @@ fn whole(alloc: Global, slice: &[u8], found: &[Token]) -> Result<Option<Instance
 
 /// The instances of a slice, if it is made of whole ones.
 fn slice_of(alloc: Global, slice: &[u8]) -> Result<Option<InstanceList>, NoMemory>
-    requires { length slice.now ≤ 268435456 }
+    requires { length slice.now ≤ MAX_TEXT }
     ensures { IfOk result (λ r. IfSome r (λ items. IsWhole slice.now (map instance_of items))) }
 {
     match listed(alloc, slice)? {
@@ -90,7 +90,7 @@ fn slice_of(alloc: Global, slice: &[u8]) -> Result<Option<InstanceList>, NoMemor
 
 /// The tokens of a text's first slice and how many bytes it has, if it has tokens.
 fn sliced(alloc: Global, bytes: &[u8]) -> Result<Option<(Vec<Token>, usize)>, NoMemory>
-    requires { length bytes.now ≤ 268435456 }
+    requires { length bytes.now ≤ MAX_TEXT }
     ensures exact { IfOk result (λ r. IfSome r (λ slice. tokens_of (take slice.1 bytes.now) ≡ Ok slice.0.items)) }
     ensures inside { IfOk result (λ r. IfSome r (λ slice. All (IsToken (take slice.1 bytes.now)) slice.0.items)) }
     ensures within { IfOk result (λ r. IfSome r (λ slice. slice.1 ≤ length bytes.now)) }
@@ -117,7 +117,7 @@ fn instances_end(found: &[Token]) -> Option<u32> {
 /// Whole instances at the front of a text that goes on from there, and how many bytes they have: a slice, or what stands before the end of
 /// the file in it.
 pub fn next_slice(alloc: Global, bytes: &[u8]) -> Result<Option<(InstanceList, usize)>, NoMemory>
-    requires { length bytes.now ≤ 268435456 }
+    requires { length bytes.now ≤ MAX_TEXT }
     ensures whole { IfOk result (λ r. IfSome r (λ slice. IsWhole (take slice.1 bytes.now) (map instance_of slice.0))) }
     ensures within { IfOk result (λ r. IfSome r (λ slice. slice.1 ≤ length bytes.now)) }
     ensures filled { IfOk result (λ r. IfSome r (λ slice. 0 < slice.1)) }
@@ -152,7 +152,7 @@ fn data_end(slice: &[u8], found: &[Token]) -> Option<u32> {
 
 /// How many bytes the front of a text has, up to and with `DATA;`.
 fn front_len(alloc: Global, bytes: &[u8]) -> Result<Option<usize>, NoMemory>
-    requires { length bytes.now ≤ 268435456 }
+    requires { length bytes.now ≤ MAX_TEXT }
     ensures { IfOk result (λ r. IfSome r (λ len. len ≤ length bytes.now)) }
 {
     let mut at = 0;
@@ -171,7 +171,7 @@ fn front_len(alloc: Global, bytes: &[u8]) -> Result<Option<usize>, NoMemory>
 
 /// The exchange of the front and the end of a file, if they are so.
 fn begin(alloc: Global, front: &[u8], end: &[u8]) -> Result<Option<Exchange>, NoMemory>
-    requires { length front.now + length end.now ≤ 268435456 }
+    requires { length front.now + length end.now ≤ MAX_TEXT }
     ensures { IfOk result (λ r. IfSome r (λ x. IsFront front.now (exchange_of x))) }
 {
     let Some(first) = listed(alloc, front)? else {
@@ -234,7 +234,7 @@ fn end_it(bytes: &[u8], found: &[Token]) -> bool
 
 /// Whether a text is what ends a file, behind its instances.
 pub fn is_end(alloc: Global, bytes: &[u8]) -> Result<bool, NoMemory>
-    requires { length bytes.now ≤ 268435456 }
+    requires { length bytes.now ≤ MAX_TEXT }
     ensures { IfOk result (λ yes. IsTrue yes → IsSlice bytes.now [] spell_last) }
 {
     match listed(alloc, bytes)? {

@@ -4,6 +4,7 @@ use Rattle.std.specs.Prelude.{slice_range}
 use Rattle.std.specs.List.{IsDistinct}
 use Rattle.std.proofs.Math.Seq.{take-suc}
 use Rattle.std.proofs.lemmas.List.{take-append-drop, map-append, append-nil, length-map}
+use Rattle.p21_parse.specs.declared.limits.TheConstants.{MAX_INSTANCES}
 use Rattle.p21_parse.specs.Tree.{InstanceTree, ExchangeTree}
 use Rattle.p21_parse.specs.Source.{spell_last}
 use Rattle.p21_parse.specs.Allowed.{own_number_of}
@@ -74,12 +75,12 @@ goes_on bytes at len es fs items read slice typed =
 all_of : (x : ExchangeTree) (es : List Entity) → all_typed x.items ≡ Ok (map entity_of es) → all_typed (with_items x []).items ≡ Ok (map entity_of es)
 all_of x es typed = ap all_typed (append-nil x.items) ∙ typed
 
-pub finished : (bytes : List ℕ) (end : ℕ) (es : List Entity) → length bytes ≤ MAX_PROJECT_BYTES → Read bytes end es → IsSlice (drop end bytes) [] spell_last → length es ≤ 200000 → IsDistinct nat_eq (numbers_of es) → HasEntities bytes es
+pub finished : (bytes : List ℕ) (end : ℕ) (es : List Entity) → length bytes ≤ MAX_PROJECT_BYTES → Read bytes end es → IsSlice (drop end bytes) [] spell_last → length es ≤ MAX_INSTANCES → IsDistinct nat_eq (numbers_of es) → HasEntities bytes es
 finished bytes end es short read last few distinct =
     let x = with_items read.exchange [] in
     let typed : all_typed x.items ≡ Ok (map entity_of es) = all_of read.exchange es read.typed in
     let numbers : numbers_of es ≡ map own_number_of x.items = typed_numbers x.items es typed in
-    let few_items : length x.items ≤ 200000 = omega (arith, few, length-map es (λ (e : Entity). e.number), ap length numbers, length-map x.items own_number_of) in
+    let few_items : length x.items ≤ MAX_INSTANCES = omega (arith, few, length-map es (λ (e : Entity). e.number), ap length numbers, length-map x.items own_number_of) in
     let file : IsText (take end bytes ++ drop end bytes) x = whole (take end bytes) (drop end bytes) read.exchange [] read.front last few_items (subst (IsDistinct nat_eq) numbers distinct) in
     record {
       exchange = x;

@@ -12,12 +12,9 @@ use crate::project::MAX_PROJECT_BYTES;
 use entity_read::{TypeErr, typed};
 use entity_types::Entity;
 use nc_base::{NoMemory, Number, are_distinct};
-use p21_parse::Instance;
+use p21_parse::{Instance, MAX_INSTANCES};
 use p21_slices::{front_of, is_end, next_slice};
 use std::alloc::Global;
-
-/// How many instances a file has at most.
-const MOST: usize = 200_000;
 
 /// The entities of instances, if each is one.
 fn slice_entities(alloc: Global, instances: &[Instance]) -> Result<Option<Vec<Entity>>, NoMemory>
@@ -66,7 +63,7 @@ pub fn entities_in(alloc: Global, bytes: &[u8]) -> Result<Option<Vec<Entity>>, N
         entities.append(&mut more)?;
         at += len;
     }
-    if entities.len() > MOST || !is_end(alloc, &bytes[at..])? {
+    if entities.len() > MAX_INSTANCES || !is_end(alloc, &bytes[at..])? {
         return Ok(None);
     }
     let numbers = numbers_of(alloc, entities.as_slice())?;

@@ -2,6 +2,7 @@ use Rattle.std.proofs.Common.{◌≡◌, ◌≤◌, ◌+◌, ◌++◌, [], Ok, �
 use Rattle.std.specs.Prelude.{slice_range}
 use Rattle.std.specs.List.{IsDistinct}
 use Rattle.std.proofs.lemmas.List.{take_rest, length-drop}
+use Rattle.p21_parse.specs.declared.limits.TheConstants.{MAX_INSTANCES}
 use Rattle.p21_parse.specs.View.{instance_of}
 use Rattle.p21_parse.specs.Source.{spell_last}
 use Rattle.entity_types.specs.declared.entity.Entity.{Entity}
@@ -38,6 +39,6 @@ returns-clause-found c =
     let es = c.loop-entities.entities.items in
     let given : IsSlice (slice_range bytes at (length bytes)) [] spell_last = search rules in
     let last : IsSlice (drop at bytes) [] spell_last = subst (λ (b : List ℕ). IsSlice b [] spell_last) (take_rest bytes at) given in
-    let few : length es ≤ 200000 = search rules in
+    let few : length es ≤ MAX_INSTANCES = search rules in
     let distinct : IsDistinct nat_eq (numbers_of es) = search rules in
     finished bytes at es c.requires c.loop-entities.invariant.read last few distinct
