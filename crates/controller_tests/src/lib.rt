@@ -1,0 +1,13 @@
+//! Tests of the controller: what it answers to words and files, how it reads and writes, and a long run compared whole.
+#![tactic(auto)]
+
+#[cfg(test)]
+mod answers;
+#[cfg(test)]
+mod asked;
+#[cfg(test)]
+mod counted;
+#[cfg(test)]
+mod long_run;
+#[cfg(test)]
+mod projects;
