@@ -448,7 +448,7 @@ fn numbers_that_fall_by_a_step_are_read(rt: HostRuntime) -> Result<(), Fail> {
 fn with_repeat(alloc: Global, first: u32, again: u32) -> Result<Vec<u8>, Fail> {
     let mut text = Vec::new(alloc);
     for i in 0..SMALL {
-        let number = 100 + if i == again { first } else { i };
+        let number = (if i == again { first } else { i }).wrapping_add(100);
         let line = format!(in alloc; "#{number}=A();")?;
         text.extend_from_slice(line.as_bytes())?;
     }
@@ -466,7 +466,7 @@ fn a_number_is_found_wherever_it_stands_again(rt: HostRuntime) -> Result<(), Fai
                 &rt,
                 rt.alloc(),
                 &[(HEAD, 1), (&text, 1), (b"#9=;", 1)],
-                Some(Duplicate(100 + first)),
+                Some(Duplicate(first.wrapping_add(100))),
             )?;
         }
     }
