@@ -1,0 +1,7 @@
+//! Tests of stores, of definitions and of reading projects.
+#![tactic(auto)]
+
+#[cfg(test)]
+mod reading;
+#[cfg(test)]
+mod store;
