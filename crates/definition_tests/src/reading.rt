@@ -93,41 +93,51 @@ fn what_straddles_two_slices_is_read(rt: HostRuntime) -> Result<(), Fail> {
     Ok(())
 }
 
-/// A part behind the first slice, and why the file is refused for it: the refusal's place is so many bytes before the text's end.
+/// Why a file is refused for what stands behind its first slice.
+#[derive(Clone, Copy)]
+enum Late {
+    BadByte,
+    Syntax,
+    Twice,
+}
+
+fn refusal(late: Late, place: u32) -> ReadErr {
+    match late {
+        Late::BadByte => ReadErr::Lex(LexErr::BadByte(place)),
+        Late::Syntax => ReadErr::Syntax(place),
+        Late::Twice => ReadErr::Duplicate(2),
+    }
+}
+
+/// Parts behind the first slice, and why the file is refused for them: the refusal's place is so many bytes before the text's end.
 fn expect_late(
     rt: &impl Abort,
     alloc: Global,
     parts: &[&[u8]],
-    want: fn(u32) -> ReadErr,
+    want: Late,
     before_end: usize,
 ) -> Result<(), Fail> {
     let text = spread(alloc, 70_000, parts)?;
-    let place = text.len().saturating_sub(before_end) as u32;
-    expect_refused(rt, alloc, text.as_slice(), want(place));
+    let place = u32::try_from(text.len().saturating_sub(before_end)).unwrap_or(0);
+    expect_refused(rt, alloc, text.as_slice(), refusal(want, place));
     Ok(())
-}
-
-fn bad_byte(place: u32) -> ReadErr {
-    ReadErr::Lex(LexErr::BadByte(place))
-}
-
-fn syntax(place: u32) -> ReadErr {
-    ReadErr::Syntax(place)
-}
-
-fn twice(_place: u32) -> ReadErr {
-    ReadErr::Duplicate(2)
 }
 
 #[test]
 fn faults_behind_a_slice_keep_their_places(rt: HostRuntime) -> Result<(), Fail> {
     let alloc = rt.alloc();
-    expect_late(&rt, alloc, &[b"@", BACK], bad_byte, 1 + BACK.len())?;
-    expect_late(&rt, alloc, &[b"#9=A();\n", BACK, b"@"], bad_byte, 1)?;
-    expect_late(&rt, alloc, &[b"#9=A(;\n", BACK], syntax, 2 + BACK.len())?;
-    expect_late(&rt, alloc, &[b"END-ISO-10303-21;\n"], syntax, 18)?;
-    expect_late(&rt, alloc, &[b"ENDSEC;\n"], syntax, 0)?;
-    expect_late(&rt, alloc, &[b"#2=CHANNEL('0');\n", BACK], twice, 0)
+    expect_late(&rt, alloc, &[b"@", BACK], Late::BadByte, 1 + BACK.len())?;
+    expect_late(&rt, alloc, &[b"#9=A();\n", BACK, b"@"], Late::BadByte, 1)?;
+    expect_late(
+        &rt,
+        alloc,
+        &[b"#9=A(;\n", BACK],
+        Late::Syntax,
+        2 + BACK.len(),
+    )?;
+    expect_late(&rt, alloc, &[b"END-ISO-10303-21;\n"], Late::Syntax, 18)?;
+    expect_late(&rt, alloc, &[b"ENDSEC;\n"], Late::Syntax, 0)?;
+    expect_late(&rt, alloc, &[b"#2=CHANNEL('0');\n", BACK], Late::Twice, 0)
 }
 
 /// Points from number 3 on, as many, on one line.
