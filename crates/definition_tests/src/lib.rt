@@ -1,5 +1,9 @@
-//! Tests of definitions: step_def.
+//! Tests of stores, of definitions and of reading projects.
 #![tactic(auto)]
 
 #[cfg(test)]
 mod definitions;
+#[cfg(test)]
+mod reading;
+#[cfg(test)]
+mod store;
