@@ -1,16 +1,14 @@
 -- The steps of workingsteps in a row, or the least that has a fault.
-use Rattle.std.proofs.Common.{◌≡◌, ℕ, zero, suc, ◌+◌, ◌<◌, ◌≤◌, Bool, true, false, List, [], ◌∷◌, ◌++◌, length, take, get_or, Option, Some, None, Ok, Err, refl, sym, ap, subst, ◌∙◌, add-one, arith, ⊎_elim}
-use Rattle.std.specs.Prelude.{◌&&◌, ◌||◌, ◌==◌, ◌⊎◌, nat_le, is_ok}
+use Rattle.std.proofs.Common.{◌≡◌, ℕ, zero, suc, ◌+◌, ◌<◌, ◌≤◌, Bool, true, false, List, [], ◌∷◌, ◌++◌, length, take, get_or, Ok, Err, refl, sym, ap, subst, ◌∙◌, add-one, arith, ⊎_elim}
+use Rattle.std.specs.Prelude.{◌&&◌, ◌||◌, ◌==◌, is_ok}
 use Rattle.std.specs.List.{list_all}
 use Rattle.std.proofs.Math.Seq.{take-suc}
 use Rattle.std.specs.List.Sorted.{IsNonDecreasing, IsPermutation}
 use Rattle.std.proofs.lemmas.Bool.{eqb-true, eq-eqb, cases_order}
 use Rattle.std.proofs.lemmas.List.Sorted.{list_any-IsPermutation}
-use Rattle.std.proofs.lemmas.Bool.Decides.{nat_tests}
 use Rattle.std.proofs.lemmas.List.{take_all, map-append}
 use Rattle.entity_types.specs.declared.entity.Entity.{Entity}
 use Rattle.project_store.specs.Entities.{entity_at}
-use Rattle.path_blocks.specs.declared.def.Def.{Def}
 use Rattle.path_blocks.specs.declared.step.Step.{Step}
 use Rattle.step_def.specs.declared.fault.DefFault.{DefFault}
 use Rattle.step_def.specs.DefOf.{def_of}
@@ -113,7 +111,7 @@ ordered_first entities numbers ordered i lt before faulty m among less =
     let at = place_of numbers m among in
     let earlier : at.0 < i = ⊎_elim (λ same. absurd (omega (arith, ordered i at.0 0 (omega (arith, same)) at.1, at.2))) (λ r. ⊎_elim (λ l. l) (λ l. absurd (omega (arith, ordered i at.0 0 (omega (arith, l)) at.1, at.2))) r) (cases_order at.0 i) in
     let there : is_among (take i numbers) m ≡ true =
-        subst (λ (n : ℕ). is_among (take i numbers) n ≡ true) (get_taken numbers i at.0 earlier at.1 ∙ at.2) (among_at (take i numbers) at.0 (short numbers i at.0 earlier at.1)) in
+    subst (λ (n : ℕ). is_among (take i numbers) n ≡ true) (get_taken numbers i at.0 earlier at.1 ∙ at.2) (among_at (take i numbers) at.0 (short numbers i at.0 earlier at.1)) in
     each (has_def entities) (take i numbers) m before there
 
 -- where all have one, there is no first without

@@ -7,7 +7,7 @@ use Rattle.std.specs.List.{list_all}
 use Rattle.p21_lex.specs.declared.error.LexErr.TheVariants as lexes
 use Rattle.p21_parse.specs.declared.error.ReadErr.{ReadErr}
 use Rattle.p21_parse.specs.declared.error.ReadErr.TheVariants as reads
-use Rattle.p21_parse.specs.Tree.{ExchangeTree, InstanceTree}
+use Rattle.p21_parse.specs.Tree.{ExchangeTree}
 use Rattle.p21_parse.specs.Text.{IsText, IsRefusedText}
 use Rattle.entity_types.specs.declared.entity.Entity.{Entity}
 use Rattle.entity_types.specs.Fits.{fields_fit}
@@ -23,7 +23,7 @@ use Rattle.project_read.specs.declared.reason.ProjectReason.{ProjectReason}
 use Rattle.project_read.specs.declared.reason.ProjectReason.TheVariants as reasons
 use Rattle.project_read.specs.Typing.{all_typed}
 use Rattle.project_read.specs.Plan.{main_plan, IsPlan}
-use Rattle.project_read.specs.Faults.{has_def, is_among, IsLeastFault}
+use Rattle.project_read.specs.Faults.{has_def, IsLeastFault}
 use Rattle.project_read.specs.Holds.{Project, HasExchange, HasEntities, HasStore, HasPlan, Holds}
 use Rattle.project_read.specs.Refuses.{Refuses}
 use Rattle.project_read.proofs.Faulting.{each}
@@ -178,8 +178,9 @@ too_long bytes long short = absurd (omega arith)
 
 same_fault : Single → (bytes : List ℕ) (e f : ReadErr) → Said bytes e → Said bytes f → reasons.Read e ≡ reasons.Read f
 same_fault single bytes e f h k = elim (single bytes e f h.refused k.refused) [
-    inl same ↦ ap reasons.Read same
-  | inr other ↦ elim other [ inl first ↦ absurd (h.real first) | inr second ↦ absurd (k.real second) ] ]
+  | inl same ↦ ap reasons.Read same
+  | inr other ↦ elim other [ inl first ↦ absurd (h.real first) | inr second ↦ absurd (k.real second) ]
+]
 
 no_text : Apart → (bytes : List ℕ) (e : ReadErr) (x : ExchangeTree) → Said bytes e → HasExchange bytes x → ⊥
 no_text apart bytes e x h k = h.real (apart bytes x e k.spelled h.refused)
@@ -225,8 +226,10 @@ least_number p n m e f h k = by (nat_lt n m) (nat_lt m n) refl refl
   where
     faulty_n : has_def p.entities n ≡ false
     faulty_n = ap is_ok h.faulty
+
     faulty_m : has_def p.entities m ≡ false
     faulty_m = ap is_ok k.faulty
+
     by : (a b : Bool) → nat_lt n m ≡ a → nat_lt m n ≡ b → n ≡ m
     by true b x y = let lt : n < m = grind (arith, nat_tests) in let has = k.least n h.among lt in let bad : false ≡ true = sym faulty_n ∙ has in absurd (cc)
     by false true x y = let lt : m < n = grind (arith, nat_tests) in let has = h.least m k.among lt in let bad : false ≡ true = sym faulty_m ∙ has in absurd (cc)
