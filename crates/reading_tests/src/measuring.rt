@@ -1,7 +1,8 @@
 //! Numbers in thousandths.
 
+use nc_base::MAX_THOUSANDTHS;
 use number_laws::number_laws;
-use units_um::{MAX_DIGITS, MAX_THOUSANDTHS, UnitErr, half_up, one_reading, thousandths};
+use units_um::{MAX_DIGITS, UnitErr, half_up, one_reading, thousandths};
 
 const LONGEST: i64 = 1_000_000_000_000_000;
 
