@@ -1,5 +1,6 @@
 pub mod NumeralsLemmas
 pub mod CommandLemmas
+pub mod LawsLemmas
 pub mod RefusalLemmas
 pub mod ReplayingLemmas
 pub mod ShowingLemmas

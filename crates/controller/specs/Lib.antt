@@ -1,6 +1,7 @@
 pub mod Numerals
 pub mod Words
 pub mod Commands
+pub mod Meaning
 pub mod Texts
 pub mod Refusal
 pub mod Codes
