@@ -8,6 +8,7 @@ pub mod Codes
 pub mod Run
 pub mod Outside
 pub mod Asked
+pub mod Kinds
 pub mod Answered
 pub mod Answer
 pub mod ProjectFile
