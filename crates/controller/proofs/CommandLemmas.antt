@@ -84,10 +84,10 @@ not_line ws forms n fit differ =
     fewer : (n m : ℕ) → n ≤ m → (n < m) ⊎ (n ≡ m)
     fewer n m le = grind arith
 
-none_of : (a b c d : Bool) → a ≡ false → b ≡ false → c ≡ false → d ≡ false → (a || (b || (c || (d || false)))) ≡ false
+pub none_of : (a b c d : Bool) → a ≡ false → b ≡ false → c ≡ false → d ≡ false → (a || (b || (c || (d || false)))) ≡ false
 none_of a b c d p q r t = rw (p, q, r, t) refl
 
-some_of : (a b c d : Bool) → (a ≡ true) ⊎ ((b ≡ true) ⊎ ((c ≡ true) ⊎ (d ≡ true))) → (a || (b || (c || (d || false)))) ≡ true
+pub some_of : (a b c d : Bool) → (a ≡ true) ⊎ ((b ≡ true) ⊎ ((c ≡ true) ⊎ (d ≡ true))) → (a || (b || (c || (d || false)))) ≡ true
 some_of true b c d e = refl
 some_of false true c d e = refl
 some_of false false true d e = refl
@@ -155,6 +155,13 @@ path_shape (a ∷ b ∷ n ∷ []) e =
 path_shape (a ∷ b ∷ n ∷ x ∷ ws) e =
     let long : suc (suc (suc (suc (length ws)))) ≡ 3 = eqb-true (suc (suc (suc (suc (length ws))))) 3 (both (begins (a ∷ b ∷ n ∷ x ∷ ws) path_line) (suc (suc (suc (suc (length ws)))) == 3) e).1 in
     absurd (omega arith)
+
+pub one_of : (a b c d : Bool) → (a || (b || (c || (d || false)))) ≡ true → (a ≡ true) ⊎ ((b ≡ true) ⊎ ((c ≡ true) ⊎ (d ≡ true)))
+one_of true b c d e = inl refl
+one_of false true c d e = inr (inl refl)
+one_of false false true d e = inr (inr (inl refl))
+one_of false false false true e = inr (inr (inr refl))
+one_of false false false false e = absurd (cc)
 
 -- so many words stand there and begin the line
 pub record AreBegun (ws : List (List ℕ)) (forms : List Form) (n : ℕ) : Type 0 where

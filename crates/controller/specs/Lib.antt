@@ -1,12 +1,14 @@
 pub mod Numerals
 pub mod Words
 pub mod Commands
+pub mod Meaning
 pub mod Texts
 pub mod Refusal
 pub mod Codes
 pub mod Run
 pub mod Outside
 pub mod Asked
+pub mod Kinds
 pub mod Answered
 pub mod Answer
 pub mod ProjectFile

@@ -6,6 +6,7 @@
 //! | top_calls | the calls | `top`, `quick` |
 //! | status | how a call ended, and its exit status | `Status` |
 //! | command, numerals | the words of a command | |
+//! | laws | words mean one command or are bad at one place, and have one kind of answer | `word_laws`, `answer_laws` |
 //! | project_file | the project that a file holds | |
 //! | replaying, showing | what the commands do with a project | |
 //! | answer, refusal | an answer before it is written, and its text | |
@@ -15,6 +16,7 @@
 
 mod answer;
 mod command;
+mod laws;
 mod numerals;
 mod project_file;
 mod refusal;
@@ -23,5 +25,6 @@ mod showing;
 mod status;
 mod top_calls;
 
+pub use laws::{answer_laws, word_laws};
 pub use status::Status;
 pub use top_calls::{quick, top};

@@ -1,0 +1,177 @@
+-- Words have one meaning.
+use Rattle.std.proofs.Common.{◌≡◌, ℕ, zero, suc, ◌+◌, ◌<◌, ◌≤◌, true, false, List, [], ◌∷◌, length, take, refl, sym, ap, ◌∙◌, arith, inl, inr, add-one}
+use Rattle.std.specs.Prelude.{◌==◌, ◌⊎◌, codes}
+use Rattle.std.specs.Str.{bytes_eq}
+use Rattle.std.proofs.lemmas.Bool.{eqb-true}
+use Rattle.std.proofs.lemmas.Slice.Eq.{bytes_eq-Decides}
+use Rattle.controller.specs.Numerals.{value_of}
+use Rattle.controller.specs.Words.{Form, begins, is_line, is_some_line, begins_some, AreBadAt, is_name, is_limit, is_step, replay_line, path_line, help_line, version_line, IsReplay, IsPath}
+use Rattle.controller.specs.Meaning.{Meaning, Replay, Path, Help, Version, Bad, Mean}
+use Rattle.controller.proofs.CommandLemmas.{both, tested, no_test, some_of, none_of, one_of, begins_fewer, replay_shape, path_shape}
+
+-- a line and what its words give
+replay_is_line : (ws : List (List ℕ)) (name : List ℕ) (limit : ℕ) → IsReplay ws name limit → is_line ws replay_line ≡ true
+replay_is_line [] name limit h = absurd h
+replay_is_line (a ∷ []) name limit h = absurd h
+replay_is_line (a ∷ b ∷ []) name limit h = absurd h
+replay_is_line (a ∷ b ∷ c ∷ []) name limit h = absurd h
+replay_is_line (a ∷ b ∷ c ∷ d ∷ []) name limit h = absurd h
+replay_is_line (a ∷ b ∷ c ∷ d ∷ l ∷ []) name limit h = h.0
+replay_is_line (a ∷ b ∷ c ∷ d ∷ l ∷ x ∷ ws) name limit h = absurd h
+
+path_is_line : (ws : List (List ℕ)) (name : List ℕ) (n : ℕ) → IsPath ws name n → is_line ws path_line ≡ true
+path_is_line [] name n h = absurd h
+path_is_line (a ∷ []) name n h = absurd h
+path_is_line (a ∷ b ∷ []) name n h = absurd h
+path_is_line (a ∷ b ∷ c ∷ []) name n h = h.0
+path_is_line (a ∷ b ∷ c ∷ x ∷ ws) name n h = absurd h
+
+same_replay : (ws : List (List ℕ)) (name name2 : List ℕ) (limit limit2 : ℕ) → IsReplay ws name limit → IsReplay ws name2 limit2 → Replay name limit ≡ Replay name2 limit2
+same_replay [] name name2 limit limit2 h k = absurd h
+same_replay (a ∷ []) name name2 limit limit2 h k = absurd h
+same_replay (a ∷ b ∷ []) name name2 limit limit2 h k = absurd h
+same_replay (a ∷ b ∷ c ∷ []) name name2 limit limit2 h k = absurd h
+same_replay (a ∷ b ∷ c ∷ d ∷ []) name name2 limit limit2 h k = absurd h
+same_replay (a ∷ b ∷ c ∷ d ∷ l ∷ []) name name2 limit limit2 h k =
+    let names : name ≡ name2 = sym h.1 ∙ k.1 in
+    let limits : limit ≡ limit2 = sym h.2 ∙ k.2 in
+    ap (λ (m : List ℕ). Replay m limit) names ∙ ap (Replay name2) limits
+same_replay (a ∷ b ∷ c ∷ d ∷ l ∷ x ∷ ws) name name2 limit limit2 h k = absurd h
+
+same_path : (ws : List (List ℕ)) (name name2 : List ℕ) (n n2 : ℕ) → IsPath ws name n → IsPath ws name2 n2 → Path name n ≡ Path name2 n2
+same_path [] name name2 n n2 h k = absurd h
+same_path (a ∷ []) name name2 n n2 h k = absurd h
+same_path (a ∷ b ∷ []) name name2 n n2 h k = absurd h
+same_path (a ∷ b ∷ l ∷ []) name name2 n n2 h k =
+    let names : name ≡ name2 = sym h.1 ∙ k.1 in
+    let numbers : n ≡ n2 = sym h.2 ∙ k.2 in
+    ap (λ (m : List ℕ). Path m n) names ∙ ap (Path name2) numbers
+same_path (a ∷ b ∷ l ∷ x ∷ ws) name name2 n n2 h k = absurd h
+
+bytes_same : (a b : List ℕ) → bytes_eq a b ≡ true → a ≡ b
+bytes_same a b e = (bytes_eq-Decides a b).0 e
+
+first_word : (ws : List (List ℕ)) (form : Form) (forms : List Form) → is_line ws (form ∷ forms) ≡ true → (w : List ℕ) × (rest : List (List ℕ)) × (ws ≡ w ∷ rest) × (form w ≡ true)
+first_word [] form forms e = let empty : 0 ≡ suc (length forms) = eqb-true 0 (suc (length forms)) e in absurd (omega arith)
+first_word (w ∷ ws) form forms e =
+    let h = both (begins (w ∷ ws) (form ∷ forms)) (length (w ∷ ws) == length (form ∷ forms)) e in
+    (w, ws, refl, (both (form w) (begins ws forms) h.0).0)
+
+abbrev words : List ℕ → List (List ℕ) → List (List ℕ)
+words w ws = w ∷ ws
+
+head : (v w : List ℕ) (vs ws : List (List ℕ)) → words v vs ≡ words w ws → v ≡ w
+head v w vs ws e = cc
+
+-- no words are two lines that begin with different words
+one_line : (ws : List (List ℕ)) (a b : List ℕ) (forms others : List Form) → bytes_eq a b ≡ false → is_line ws (bytes_eq a ∷ forms) ≡ true → is_line ws (bytes_eq b ∷ others) ≡ true → ⊥
+one_line ws a b forms others apart e f =
+    let h = first_word ws (bytes_eq a) forms e in
+    let k = first_word ws (bytes_eq b) others f in
+    let same : h.0 ≡ k.0 = head h.0 k.0 h.1 k.1 (sym h.2 ∙ k.2) in
+    let words_same : a ≡ b = bytes_same a h.0 h.3 ∙ same ∙ sym (bytes_same b k.0 k.3) in
+    no_test (bytes_eq a b) ((bytes_eq-Decides a b).1 words_same) apart
+
+abbrev replay_rest : List Form
+replay_rest = is_name ∷ bytes_eq (codes "-") ∷ bytes_eq (codes "-") ∷ is_limit ∷ []
+
+abbrev path_rest : List Form
+path_rest = is_name ∷ is_step ∷ []
+
+replay_or_path : (ws : List (List ℕ)) → is_line ws replay_line ≡ true → is_line ws path_line ≡ true → ⊥
+replay_or_path ws e f = one_line ws (codes "replay") (codes "path") replay_rest path_rest refl e f
+
+replay_or_help : (ws : List (List ℕ)) → is_line ws replay_line ≡ true → is_line ws help_line ≡ true → ⊥
+replay_or_help ws e f = one_line ws (codes "replay") (codes "--help") replay_rest [] refl e f
+
+replay_or_version : (ws : List (List ℕ)) → is_line ws replay_line ≡ true → is_line ws version_line ≡ true → ⊥
+replay_or_version ws e f = one_line ws (codes "replay") (codes "--version") replay_rest [] refl e f
+
+path_or_help : (ws : List (List ℕ)) → is_line ws path_line ≡ true → is_line ws help_line ≡ true → ⊥
+path_or_help ws e f = one_line ws (codes "path") (codes "--help") path_rest [] refl e f
+
+path_or_version : (ws : List (List ℕ)) → is_line ws path_line ≡ true → is_line ws version_line ≡ true → ⊥
+path_or_version ws e f = one_line ws (codes "path") (codes "--version") path_rest [] refl e f
+
+help_or_version : (ws : List (List ℕ)) → is_line ws help_line ≡ true → is_line ws version_line ≡ true → ⊥
+help_or_version ws e f = one_line ws (codes "--help") (codes "--version") [] [] refl e f
+
+-- words that are a line aren't bad
+not_bad : (ws : List (List ℕ)) (place : ℕ) → (is_line ws replay_line ≡ true) ⊎ ((is_line ws path_line ≡ true) ⊎ ((is_line ws help_line ≡ true) ⊎ (is_line ws version_line ≡ true))) → AreBadAt ws place → ⊥
+not_bad ws place which bad = no_test (is_some_line ws) (some_of (is_line ws replay_line) (is_line ws path_line) (is_line ws help_line) (is_line ws version_line) which) bad.no_line
+
+-- fewer words of those that begin a line begin it too
+begins_less : (ws : List (List ℕ)) (forms : List Form) (i j : ℕ) → i ≤ j → begins (take j ws) forms ≡ true → begins (take i ws) forms ≡ true
+begins_less ws forms i j le e = elim (tested (begins (take i ws) forms)) [ inl t ↦ t | inr f ↦ absurd (no_test (begins (take j ws) forms) e (begins_fewer ws forms i j le f)) ]
+
+some_less : (ws : List (List ℕ)) (i j : ℕ) → i ≤ j → begins_some (take j ws) ≡ true → begins_some (take i ws) ≡ true
+some_less ws i j le e = some_of (begins (take i ws) replay_line) (begins (take i ws) path_line) (begins (take i ws) help_line) (begins (take i ws) version_line)
+    (elim (one_of (begins (take j ws) replay_line) (begins (take j ws) path_line) (begins (take j ws) help_line) (begins (take j ws) version_line) e) [
+      | inl a ↦ inl (begins_less ws replay_line i j le a)
+      | inr later ↦ inr (elim later [
+        | inl b ↦ inl (begins_less ws path_line i j le b)
+        | inr last ↦ inr (elim last [ inl c ↦ inl (begins_less ws help_line i j le c) | inr d ↦ inr (begins_less ws version_line i j le d) ])
+      ])
+    ])
+
+not_before : (ws : List (List ℕ)) (i j : ℕ) → AreBadAt ws i → AreBadAt ws j → i < j → ⊥
+not_before ws i j h k lt = no_test (begins_some (take (i + 1) ws)) (some_less ws (i + 1) j (omega arith) k.begun) (h.ended (let le = k.within in omega arith))
+
+order : (i j : ℕ) → (i ≡ j) ⊎ ((i < j) ⊎ (j < i))
+order i j = grind arith
+
+same_place : (ws : List (List ℕ)) (i j : ℕ) → AreBadAt ws i → AreBadAt ws j → i ≡ j
+same_place ws i j h k = elim (order i j) [ inl e ↦ e | inr other ↦ elim other [ inl lt ↦ absurd (not_before ws i j h k lt) | inr gt ↦ absurd (not_before ws j i k h gt) ] ]
+
+-- words have one meaning at most
+pub one_meaning : (ws : List (List ℕ)) (a b : Meaning) → Mean ws a → Mean ws b → a ≡ b
+one_meaning ws (Replay name limit) (Replay name2 limit2) h k = same_replay ws name name2 limit limit2 h k
+one_meaning ws (Replay name limit) (Path name2 n) h k = absurd (replay_or_path ws (replay_is_line ws name limit h) (path_is_line ws name2 n k))
+one_meaning ws (Replay name limit) Help h k = absurd (replay_or_help ws (replay_is_line ws name limit h) k)
+one_meaning ws (Replay name limit) Version h k = absurd (replay_or_version ws (replay_is_line ws name limit h) k)
+one_meaning ws (Replay name limit) (Bad place) h k = absurd (not_bad ws place (inl (replay_is_line ws name limit h)) k)
+one_meaning ws (Path name n) (Replay name2 limit) h k = absurd (replay_or_path ws (replay_is_line ws name2 limit k) (path_is_line ws name n h))
+one_meaning ws (Path name n) (Path name2 n2) h k = same_path ws name name2 n n2 h k
+one_meaning ws (Path name n) Help h k = absurd (path_or_help ws (path_is_line ws name n h) k)
+one_meaning ws (Path name n) Version h k = absurd (path_or_version ws (path_is_line ws name n h) k)
+one_meaning ws (Path name n) (Bad place) h k = absurd (not_bad ws place (inr (inl (path_is_line ws name n h))) k)
+one_meaning ws Help (Replay name limit) h k = absurd (replay_or_help ws (replay_is_line ws name limit k) h)
+one_meaning ws Help (Path name n) h k = absurd (path_or_help ws (path_is_line ws name n k) h)
+one_meaning ws Help Help h k = refl
+one_meaning ws Help Version h k = absurd (help_or_version ws h k)
+one_meaning ws Help (Bad place) h k = absurd (not_bad ws place (inr (inr (inl h))) k)
+one_meaning ws Version (Replay name limit) h k = absurd (replay_or_version ws (replay_is_line ws name limit k) h)
+one_meaning ws Version (Path name n) h k = absurd (path_or_version ws (path_is_line ws name n k) h)
+one_meaning ws Version Help h k = absurd (help_or_version ws k h)
+one_meaning ws Version Version h k = refl
+one_meaning ws Version (Bad place) h k = absurd (not_bad ws place (inr (inr (inr h))) k)
+one_meaning ws (Bad place) (Replay name limit) h k = absurd (not_bad ws place (inl (replay_is_line ws name limit k)) h)
+one_meaning ws (Bad place) (Path name n) h k = absurd (not_bad ws place (inr (inl (path_is_line ws name n k))) h)
+one_meaning ws (Bad place) Help h k = absurd (not_bad ws place (inr (inr (inl k))) h)
+one_meaning ws (Bad place) Version h k = absurd (not_bad ws place (inr (inr (inr k))) h)
+one_meaning ws (Bad place) (Bad place2) h k = ap Bad (same_place ws place place2 h k)
+
+find_bad : (ws : List (List ℕ)) (i : ℕ) → is_some_line ws ≡ false → i ≤ length ws → (i < length ws → begins_some (take (i + 1) ws) ≡ false) → (place : ℕ) × AreBadAt ws place
+find_bad ws zero not le ended = (0, record { no_line = not; within = le; begun = refl; ended = ended })
+find_bad ws (suc i) not le ended = elim (tested (begins_some (take (suc i) ws))) [
+  | inl t ↦ (suc i, record { no_line = not; within = le; begun = t; ended = ended })
+  | inr f ↦ find_bad ws i not (omega arith) (λ _. rw add-one f)
+]
+
+-- words have a meaning
+pub some_meaning : (ws : List (List ℕ)) → (m : Meaning) × Mean ws m
+some_meaning ws = elim (tested (is_line ws replay_line)) [
+  | inl t ↦ let shape = replay_shape ws t in (Replay shape.0 (value_of shape.1), shape.6)
+  | inr no_replay ↦ elim (tested (is_line ws path_line)) [
+    | inl t ↦ let shape = path_shape ws t in (Path shape.0 (value_of shape.1), shape.6)
+    | inr no_path ↦ elim (tested (is_line ws help_line)) [
+      | inl t ↦ (Help, t)
+      | inr no_help ↦ elim (tested (is_line ws version_line)) [
+        | inl t ↦ (Version, t)
+        | inr no_version ↦
+            let bad = find_bad ws (length ws) (none_of (is_line ws replay_line) (is_line ws path_line) (is_line ws help_line) (is_line ws version_line) no_replay no_path no_help no_version) (omega arith) (λ lt. absurd (omega arith)) in
+            (Bad bad.0, bad.1)
+      ]
+    ]
+  ]
+]

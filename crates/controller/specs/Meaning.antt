@@ -1,0 +1,19 @@
+-- What words mean.
+use Rattle.std.specs.Prelude.{◌≡◌, ℕ, true, List}
+use Rattle.controller.specs.Words.{help_line, version_line, is_line, IsReplay, IsPath, AreBadAt}
+
+-- a command with what it names, or the place at which words are bad
+pub data Meaning : Type 0 where
+  Replay : List ℕ → ℕ → Meaning
+  Path : List ℕ → ℕ → Meaning
+  Help : Meaning
+  Version : Meaning
+  Bad : ℕ → Meaning
+
+-- the words mean this
+abbrev pub Mean : List (List ℕ) → Meaning → Type 0
+Mean ws (Replay project limit) = IsReplay ws project limit
+Mean ws (Path project step) = IsPath ws project step
+Mean ws Help = is_line ws help_line ≡ true
+Mean ws Version = is_line ws version_line ≡ true
+Mean ws (Bad place) = AreBadAt ws place
