@@ -10,21 +10,24 @@ use crate::sink::{Failed, Sink};
 use nc_base::{NcText, NoMemory};
 use std::alloc::Global;
 use std::io::{Read, Write};
-use std::{fs, rt, str};
+use std::{fs, io, rt, str};
 
 /// The files of the host. A file's name is its path, which has to be UTF-8. One count of faults serves all names.
 #[derive(Drop)]
 pub struct HostFiles<'a, R: rt::Files> {
     host: &'a R,
     faults: u64,
+    said: Option<io::Error>,
 }
 
-/// Reads the file at this path into an empty room, if it has at most `most` bytes. Takes at most one byte more.
+/// Reads the file at this path into an empty room, if it has at most `most` bytes. Takes at most one byte more. `said` gets what the host
+/// says where it fails.
 fn read_file<R: rt::Files>(
     host: &R,
     path: &[u8],
     room: &mut Vec<u8>,
     most: u32,
+    said: &mut Option<io::Error>,
 ) -> Result<(), FileErr>
     requires { vec_len room.old ≡ 0 }
     ensures { OnOk result (length room.new.items ≤ most) }
@@ -32,14 +35,22 @@ fn read_file<R: rt::Files>(
     let Ok(path) = str::from_utf8(path) else {
         return Err(FileErr::Failed);
     };
-    let Ok(mut file) = fs::open(host, path) else {
-        return Err(FileErr::Failed);
+    let mut file = match fs::open(host, path) {
+        Ok(file) => file,
+        Err(error) => {
+            *said = Some(error);
+            return Err(FileErr::Failed);
+        }
     };
     let mut block = [0; BLOCK];
     while room.len() <= most as usize {
         let wanted = (most as usize + 1 - room.len()).min(BLOCK);
-        let Ok(taken) = file.read(&mut block[..wanted]) else {
-            return Err(FileErr::Failed);
+        let taken = match file.read(&mut block[..wanted]) {
+            Ok(taken) => taken,
+            Err(error) => {
+                *said = Some(error);
+                return Err(FileErr::Failed);
+            }
         };
         if taken == 0 {
             return Ok(());
@@ -54,7 +65,16 @@ impl<'a, R: rt::Files> HostFiles<'a, R> {
     pub fn new(host: &'a R) -> HostFiles<'a, R>
         ensures { result.faults ≡ 0 }
     {
-        HostFiles { host, faults: 0 }
+        HostFiles {
+            host,
+            faults: 0,
+            said: None,
+        }
+    }
+
+    /// What the host said where the last read failed, if it failed and the host said why: for a person to read.
+    pub fn said(&self) -> Option<&io::Error> {
+        self.said.as_ref()
     }
 }
 
@@ -65,7 +85,8 @@ impl<'a, R: rt::Files> Files for HostFiles<'a, R> {
 
     fn read(&mut self, name: &NcText, room: &mut Vec<u8>, most: u32) -> Result<(), FileErr> {
         room.clear();
-        let answer = read_file(self.host, name.bytes(), room, most);
+        self.said = None;
+        let answer = read_file(self.host, name.bytes(), room, most, &mut self.said);
         if answer.is_err() {
             room.clear();
         }

@@ -6,7 +6,10 @@ use Rattle.p21_lex.specs.declared.token.TokenKind.{TokenKind}
 use Rattle.p21_lex.specs.declared.token.TokenKind.TheVariants.{Word, UserWord, Name, Int, Real, Text, Enumeration, Binary, Open, Close, Comma, Semicolon, Equals, Dollar, Star}
 use Rattle.p21_lex.specs.declared.token.Token.{Token}
 use Rattle.p21_lex.specs.Reading.{IsGap, Stops, Reads, begins_int, begins_exponent}
+use Rattle.p21_lex.specs.declared.error.LexErr.{LexErr}
+use Rattle.p21_lex.specs.Refusal.{ReadsUpTo, IsRefusedFrom, IsRefused}
 use Rattle.p21_lex.proofs.Whole.{spelled_some}
+use Rattle.p21_lex.proofs.Refusals.{upto_gap}
 use Rattle.p21_join.specs.Join.{EndsInSemicolon, LastIsSemicolon, moved}
 
 -- ---- a slice further on in the text
@@ -103,3 +106,36 @@ reads_join at (t ∷ u ∷ ts) us a b ends last h more =
 
 pub joined : (a b : List ℕ) (ts us : List Token) → EndsInSemicolon a → LastIsSemicolon ts → Reads 0 ts a → Reads 0 us b → Reads 0 (ts ++ map (moved (length a)) us) (a ++ b)
 joined a b ts us ends last h more = reads_join 0 ts (map (moved (length a)) us) a b ends last h (subst (λ (n : ℕ). Reads n (map (moved (length a)) us) b) (omega arith) (moves (length a) 0 us b more))
+
+-- ---- a fault behind a slice
+
+upto_gaps : (at : ℕ) (gaps : List (List ℕ)) (rest : List ℕ) (ts : List Token) (place : ℕ) (left : List ℕ) → AllByRecursion IsGap gaps → ReadsUpTo (at + length (concat gaps)) ts rest place left → ReadsUpTo at ts (concat gaps ++ rest) place left
+upto_gaps at [] rest ts place left are h = subst (λ (n : ℕ). ReadsUpTo n ts rest place left) (omega arith) h
+upto_gaps at (g ∷ gs) rest ts place left are h =
+    let on : (at + length (concat (g ∷ gs))) ≡ ((at + length g) + length (concat gs)) = omega (arith, length-append g (concat gs)) in
+    let behind : ReadsUpTo (at + length g) ts (concat gs ++ rest) place left = upto_gaps (at + length g) gs rest ts place left are.1 (subst (λ (n : ℕ). ReadsUpTo n ts rest place left) on h) in
+    subst (λ (bs : List ℕ). ReadsUpTo at ts bs place left) (sym (append_assoc g (concat gs) rest)) (upto_gap at g (concat gs ++ rest) ts place left are.0 behind)
+
+-- what reads a slice and then the text behind it up to a place reads both up to there
+pub upto_join : (at : ℕ) (ts us : List Token) (a b : List ℕ) (place : ℕ) (left : List ℕ) → EndsInSemicolon a → LastIsSemicolon ts → Reads at ts a → ReadsUpTo (at + length a) us b place left
+    → ReadsUpTo at (ts ++ us) (a ++ b) place left
+upto_join at [] us a b place left ends last h more = absurd last
+upto_join at (t ∷ []) us a b place left ends last h more =
+    let on : at + length a ≡ t.end + length h.2 = lengths at t.start t.end (concat h.0) h.1 h.2 a h.4 h.5 h.6 in
+    let further : ReadsUpTo (t.end + length (concat h.9.0)) us b place left = subst (λ (n : ℕ). ReadsUpTo n us b place left) (on ∙ ap (λ (bs : List ℕ). t.end + length bs) h.9.2) more in
+    let behind : ReadsUpTo t.end us (h.2 ++ b) place left = subst (λ (bs : List ℕ). ReadsUpTo t.end us (bs ++ b) place left) (sym h.9.2) (upto_gaps t.end h.9.0 b us place left h.9.1 further) in
+    let stops : Stops t.kind h.1 (h.2 ++ b) = subst (λ (k : TokenKind). Stops k h.1 (h.2 ++ b)) (sym last) tt in
+    (h.0, h.1, h.2 ++ b, h.3, parts_of (concat h.0) h.1 h.2 b a h.4, h.5, h.6, h.7, stops, behind)
+upto_join at (t ∷ u ∷ ts) us a b place left ends last h more =
+    let on : at + length a ≡ t.end + length h.2 = lengths at t.start t.end (concat h.0) h.1 h.2 a h.4 h.5 h.6 in
+    let rest : EndsInSemicolon h.2 = ends_rest h.1 h.2 (some_bytes t.end u ts h.2 h.9) (ends_rest (concat h.0) (h.1 ++ h.2) (omega (arith, length-append h.1 h.2, some_bytes t.end u ts h.2 h.9)) (subst EndsInSemicolon h.4 ends)) in
+    let behind : ReadsUpTo t.end ((u ∷ ts) ++ us) (h.2 ++ b) place left = upto_join t.end (u ∷ ts) us h.2 b place left rest last h.9 (subst (λ (n : ℕ). ReadsUpTo n us b place left) on more) in
+    (h.0, h.1, h.2 ++ b, h.3, parts_of (concat h.0) h.1 h.2 b a h.4, h.5, h.6, h.7, stops_more t.kind h.1 h.2 b rest h.8, behind)
+
+pub refused : (a b : List ℕ) (ts : List Token) (e : LexErr) → EndsInSemicolon a → LastIsSemicolon ts → Reads 0 ts a → IsRefusedFrom (length a) b e → IsRefused (a ++ b) e
+refused a b ts e ends last h fault =
+    let further : ReadsUpTo (0 + length a) fault.0 b fault.1 fault.2 = subst (λ (n : ℕ). ReadsUpTo n fault.0 b fault.1 fault.2) (omega arith) fault.3 in
+    (ts ++ fault.0, fault.1, fault.2, upto_join 0 ts fault.0 a b fault.1 fault.2 ends last h further, fault.4)
+
+pub behind : (a b : List ℕ) (ts us : List Token) → EndsInSemicolon a → LastIsSemicolon ts → Reads 0 ts a → Reads (length a) us b → Reads 0 (ts ++ us) (a ++ b)
+behind a b ts us ends last h more = reads_join 0 ts us a b ends last h (subst (λ (n : ℕ). Reads n us b) (omega arith) more)

@@ -7,7 +7,7 @@ use Rattle.p21_lex.specs.declared.error.LexErr.TheVariants.{BadByte, BadName, Op
 use Rattle.p21_lex.specs.declared.token.Token.{Token}
 use Rattle.p21_lex.specs.declared.piece.Piece.{Piece}
 use Rattle.p21_lex.specs.Front.{front, piece_len}
-use Rattle.p21_lex.specs.Tokens.{with_front, piece_tokens, tokens_behind, tokens_in, tokens_of, Fails}
+use Rattle.p21_lex.specs.Tokens.{with_front, piece_tokens, tokens_behind, tokens_in, tokens_behind_place, tokens_of, Fails}
 
 -- The tokens before are found; so many steps are left, and the rest is short enough for them.
 pub record Reached (total : Result (List Token) LexErr) (before : List Token) (at : ℕ) (rest : List ℕ) : Type 0 where
@@ -23,9 +23,14 @@ pub with_front-nil : (r : Result (List Token) LexErr) → with_front [] r ≡ r
 with_front-nil (Ok ts) = refl
 with_front-nil (Err e) = refl
 
-pub begun : (bytes : List ℕ) → Reached (tokens_of bytes) [] 0 bytes
-unfolding tokens_of
-begun bytes = record { steps = length bytes; enough = omega arith; so_far = with_front-nil (tokens_in (length bytes) 0 bytes) }
+pub begun : (at : ℕ) (bytes : List ℕ) → Reached (tokens_behind_place at bytes) [] at bytes
+unfolding tokens_behind_place
+begun at bytes = record { steps = length bytes; enough = omega arith; so_far = with_front-nil (tokens_in (length bytes) at bytes) }
+
+-- a text is read from its beginning on
+pub from_start : (bytes : List ℕ) → tokens_behind_place 0 bytes ≡ tokens_of bytes
+unfolding tokens_behind_place tokens_of
+from_start bytes = refl
 
 -- where a text isn't empty, its tokens are those of its front and of what is behind it
 pub unrolled : (steps at : ℕ) (rest : List ℕ) → 0 < length rest → length rest ≤ steps

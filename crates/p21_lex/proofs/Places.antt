@@ -1,15 +1,16 @@
 -- Where tokens lie in the text that they read.
-use Rattle.std.proofs.Common.{◌≡◌, ℕ, zero, suc, ◌+◌, ◌-◌, ◌<◌, ◌≤◌, List, [], ◌∷◌, ◌++◌, length, drop, All, Result, Ok, Err, refl, sym, ap, subst, ◌∙◌, append_assoc, arith}
+use Rattle.std.proofs.Common.{◌≡◌, ℕ, zero, suc, ◌+◌, ◌-◌, ◌<◌, ◌≤◌, List, [], ◌∷◌, ◌++◌, length, take, drop, All, Result, Ok, Err, refl, sym, ap, subst, ◌∙◌, append_assoc, arith}
 use Rattle.std.specs.Prelude.{slice_range, slice_index_or, IfOk, AllPairs}
 use Rattle.std.specs.List.{concat, AllByRecursion}
 use Rattle.std.specs.Global.{Vec}
-use Rattle.std.proofs.lemmas.List.{drop_at, take_at, length-append}
+use Rattle.std.proofs.lemmas.List.{drop_at, take_at, length-append, take-append-drop}
 use Rattle.std.proofs.lemmas.List.Elements.{All-from_recursion}
 use Rattle.p21_lex.specs.declared.error.LexErr.{LexErr}
 use Rattle.p21_lex.specs.declared.token.Token.{Token}
-use Rattle.p21_lex.specs.Tokens.{Gives, tokens_of}
+use Rattle.p21_lex.specs.Tokens.{Gives, tokens_behind_place, tokens_of}
 use Rattle.p21_lex.specs.Reading.{Reads, IsToken}
-use Rattle.p21_lex.proofs.Whole.{spelled_some, found, only}
+use Rattle.p21_lex.proofs.Runs.{take_within}
+use Rattle.p21_lex.proofs.Whole.{spelled_some, found, only, found_from, only_from}
 
 -- the bytes from one place to another
 part_is : (whole front text rest : List ℕ) (start end : ℕ) → whole ≡ front ++ (text ++ rest) → start ≡ length front → end ≡ start + length text → slice_range whole start end ≡ text
@@ -76,3 +77,19 @@ is_inside bytes (Err e) given = tt
 pub is_ordered : (bytes : List ℕ) (r : Result (Vec Token) LexErr) → Gives (λ v. v.items) r (tokens_of bytes) → IfOk r (λ v. AllPairs (λ t u. t.end ≤ u.start) v.items)
 is_ordered bytes (Ok v) given = ordered bytes v.items (found bytes v.items given)
 is_ordered bytes (Err e) given = tt
+
+-- ---- the same of what a call answered that began at a place
+
+pub from_found : (at : ℕ) (bytes : List ℕ) (r : Result (Vec Token) LexErr) → Gives (λ v. v.items) r (tokens_behind_place at bytes) → IfOk r (λ v. Reads at v.items bytes)
+from_found at bytes (Ok v) given = found_from at bytes v.items given
+from_found at bytes (Err e) given = tt
+
+pub from_only : (at : ℕ) (bytes : List ℕ) (r : Result (Vec Token) LexErr) → Gives (λ v. v.items) r (tokens_behind_place at bytes) → (ts : List Token) → Reads at ts bytes → Gives (λ v. v.items) r (Ok ts)
+from_only at bytes r given ts h = subst (λ (said : Result (List Token) LexErr). Gives (λ v. v.items) r said) (only_from at bytes ts h) given
+
+pub from_inside : (at : ℕ) (bytes : List ℕ) (r : Result (Vec Token) LexErr) → at ≤ length bytes → Gives (λ v. v.items) r (tokens_behind_place at (drop at bytes)) → IfOk r (λ v. All (IsToken bytes) v.items)
+from_inside at bytes (Ok v) le given =
+    let here : at ≡ length (take at bytes) = sym (take_within at bytes le) in
+    let are = lies v.items (take at bytes) at (drop at bytes) here (found_from at (drop at bytes) v.items given) in
+    All-from_recursion (IsToken bytes) v.items (subst (λ (b : List ℕ). AllByRecursion (IsToken b) v.items) (take-append-drop at bytes) are)
+from_inside at bytes (Err e) le given = tt

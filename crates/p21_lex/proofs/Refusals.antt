@@ -11,7 +11,7 @@ use Rattle.p21_lex.specs.declared.token.Token.{Token}
 use Rattle.p21_lex.specs.declared.piece.Piece.{Piece}
 use Rattle.p21_lex.specs.declared.piece.Piece.TheVariants.{Gap, Spelling}
 use Rattle.p21_lex.specs.Front.{front, piece_len}
-use Rattle.p21_lex.specs.Tokens.{Gives, token_at, with_front, piece_tokens, tokens_behind, tokens_in, tokens_of}
+use Rattle.p21_lex.specs.Tokens.{Gives, token_at, with_front, piece_tokens, tokens_behind, tokens_in, tokens_behind_place, tokens_of}
 use Rattle.p21_lex.specs.Reading.{IsGap}
 use Rattle.p21_lex.specs.Refusal.{ReadsUpTo, IsFault, IsRefusedFrom, IsRefused}
 use Rattle.p21_lex.proofs.Runs.{take_within}
@@ -82,6 +82,10 @@ pub is_refused : (bytes : List ℕ) (e : LexErr) → tokens_of bytes ≡ failed 
 unfolding tokens_of
 is_refused bytes e h = refused_in (length bytes) 0 bytes e (omega arith) h
 
+pub is_refused_from : (at : ℕ) (bytes : List ℕ) (e : LexErr) → tokens_behind_place at bytes ≡ failed e → IsRefusedFrom at bytes e
+unfolding tokens_behind_place
+is_refused_from at bytes e h = refused_in (length bytes) at bytes e (omega arith) h
+
 -- ---- a fault is refused
 
 pub fault_some : (place : ℕ) (rest : List ℕ) (e : LexErr) → IsFault place rest e → 0 < length rest
@@ -111,6 +115,10 @@ pub refuses : (bytes : List ℕ) (e : LexErr) → IsRefused bytes e → tokens_o
 unfolding tokens_of
 refuses bytes e h = upto_in h.0 (length bytes) 0 bytes h.1 h.2 e h.3 h.4 (omega arith)
 
+pub refuses_from : (at : ℕ) (bytes : List ℕ) (e : LexErr) → IsRefusedFrom at bytes e → tokens_behind_place at bytes ≡ failed e
+unfolding tokens_behind_place
+refuses_from at bytes e h = upto_in h.0 (length bytes) at bytes h.1 h.2 e h.3 h.4 (omega arith)
+
 -- No text is refused for want of memory.
 pub no_want : (bytes : List ℕ) → tokens_of bytes ≡ failed NoMemory → ⊥
 no_want bytes h = let r = is_refused bytes NoMemory h in r.4
@@ -128,6 +136,18 @@ call_refused bytes (Err (NumberTooLong at)) given = inr (is_refused bytes (Numbe
 
 pub call_refuses : (bytes : List ℕ) (r : Result (Vec Token) LexErr) → Gives (λ v. v.items) r (tokens_of bytes) → (e : LexErr) → IsRefused bytes e → Gives (λ v. v.items) r (Err e)
 call_refuses bytes r given e h = subst (λ (said : Result (List Token) LexErr). Gives (λ v. v.items) r said) (refuses bytes e h) given
+
+pub call_refused_from : (at : ℕ) (bytes : List ℕ) (r : Result (Vec Token) LexErr) → Gives (λ v. v.items) r (tokens_behind_place at bytes) → IfErr r (λ e. (e ≡ NoMemory) ⊎ IsRefusedFrom at bytes e)
+call_refused_from at bytes (Ok v) given = tt
+call_refused_from at bytes (Err NoMemory) given = inl refl
+call_refused_from at bytes (Err (BadByte place)) given = inr (is_refused_from at bytes (BadByte place) given)
+call_refused_from at bytes (Err (BadName place)) given = inr (is_refused_from at bytes (BadName place) given)
+call_refused_from at bytes (Err (OpenString place)) given = inr (is_refused_from at bytes (OpenString place) given)
+call_refused_from at bytes (Err (OpenComment place)) given = inr (is_refused_from at bytes (OpenComment place) given)
+call_refused_from at bytes (Err (NumberTooLong place)) given = inr (is_refused_from at bytes (NumberTooLong place) given)
+
+pub call_refuses_from : (at : ℕ) (bytes : List ℕ) (r : Result (Vec Token) LexErr) → Gives (λ v. v.items) r (tokens_behind_place at bytes) → (e : LexErr) → IsRefusedFrom at bytes e → Gives (λ v. v.items) r (Err e)
+call_refuses_from at bytes r given e h = subst (λ (said : Result (List Token) LexErr). Gives (λ v. v.items) r said) (refuses_from at bytes e h) given
 
 pub front_refused : (at : ℕ) (bytes : List ℕ) (r : Result Piece LexErr) → r ≡ front at bytes → IfErr r (IsFault at bytes)
 front_refused at bytes (Ok piece) is = tt

@@ -1,6 +1,6 @@
 -- Slices: what the loop of a slice has read, and that the first slice of a text is what it reads.
 use Rattle.std.proofs.Common.{◌≡◌, ℕ, zero, suc, ◌+◌, ◌<◌, ◌≤◌, Bool, true, false, cond, ◌&&◌, ◌||◌, ◌==◌, List, [], ◌∷◌, ◌++◌, length, take, drop, Result, Ok, Err, refl, sym, ap, subst, ◌∙◌, ◌⊎◌, inl, inr, append_assoc, arith}
-use Rattle.std.specs.Prelude.{nat_le, All, IfOk, IfErr}
+use Rattle.std.specs.Prelude.{All, IfOk, IfErr}
 use Rattle.std.specs.Global.{Vec}
 use Rattle.std.specs.List.{concat, AllByRecursion}
 use Rattle.std.proofs.lemmas.List.{append-nil, take-append-drop, drop_at, take_at, length-append, length-drop}
@@ -11,10 +11,10 @@ use Rattle.p21_lex.specs.declared.token.TokenKind.TheVariants.{Word, UserWord, N
 use Rattle.p21_lex.specs.declared.token.Token.{Token}
 use Rattle.p21_lex.specs.declared.piece.Piece.{Piece}
 use Rattle.p21_lex.specs.declared.piece.Piece.TheVariants.{Gap, Spelling}
-use Rattle.p21_lex.specs.Class.{is_digit, is_sign, Each, NotFirst}
+use Rattle.p21_lex.specs.Class.{is_digit, is_sign}
 use Rattle.p21_lex.specs.Front.{front, piece_len}
 use Rattle.p21_lex.specs.Tokens.{token_at, piece_tokens, tokens_of, Fails, Gives}
-use Rattle.p21_lex.specs.Reading.{IsGap, IsToken, Spells, Stops, Reads, begins_int, begins_exponent}
+use Rattle.p21_lex.specs.Reading.{IsGap, IsToken, Spells, Stops, Reads, begins_exponent}
 use Rattle.p21_lex.specs.Refusal.{ReadsUpTo, IsFault}
 use Rattle.p21_lex.specs.Slice.{Slice, ends_slice, piece_ends, with_slice, slice_behind, slice_in, slice_of, EndsAt, IsFirstSlice, IsRefusedSliceFrom, IsRefusedSlice}
 use Rattle.p21_lex.proofs.Runs.{take_within}

@@ -9,7 +9,7 @@ use Rattle.p21_lex.specs.declared.token.Token.{Token}
 use Rattle.p21_lex.specs.declared.piece.Piece.{Piece}
 use Rattle.p21_lex.specs.declared.piece.Piece.TheVariants.{Gap, Spelling}
 use Rattle.p21_lex.specs.Front.{front, piece_len}
-use Rattle.p21_lex.specs.Tokens.{token_at, with_front, piece_tokens, tokens_behind, tokens_in, tokens_of}
+use Rattle.p21_lex.specs.Tokens.{token_at, with_front, piece_tokens, tokens_behind, tokens_in, tokens_behind_place, tokens_of}
 use Rattle.p21_lex.specs.Class.{is_word}
 use Rattle.p21_lex.specs.Reading.{IsKeyword, IsInt, IsReal, IsGap, Spells, Reads}
 use Rattle.p21_lex.proofs.Runs.{take_within}
@@ -120,6 +120,11 @@ found_in (suc steps) at (b ∷ bs) ts enough e =
     found_step at b bs ts (λ len. tokens_in steps (at + len) (drop len (b ∷ bs))) (front at (b ∷ bs)) refl e
     (λ len us some h. found_in steps (at + len) (drop len (b ∷ bs)) us (omega (arith, length-drop len (b ∷ bs))) h)
 
+-- The tokens of bytes read them, wherever the first byte lies.
+pub found_from : (at : ℕ) (bytes : List ℕ) (ts : List Token) → tokens_behind_place at bytes ≡ listed ts → Reads at ts bytes
+unfolding tokens_behind_place
+found_from at bytes ts e = found_in (length bytes) at bytes ts (omega arith) e
+
 -- The tokens of a text read it.
 pub found : (bytes : List ℕ) (ts : List Token) → tokens_of bytes ≡ listed ts → Reads 0 ts bytes
 unfolding tokens_of
@@ -171,6 +176,11 @@ only_in (t ∷ ts) steps at bytes h enough =
     let here : (s : ℕ) → length (text ++ rest) ≤ s → tokens_in s start (text ++ rest) ≡ listed (token_at start t.kind (length text) ∷ ts) = λ s room. only_piece s start text rest (Spelling t.kind (length text)) (listed ts) (spelled_front t.kind text rest h.7 h.8 start) refl (spelled_some t.kind text h.7) room behind in
     let all : (s : ℕ) → length (text ++ rest) ≤ s → tokens_in s start (text ++ rest) ≡ listed (t ∷ ts) = λ s room. here s room ∙ ap (λ (x : Token). listed (x ∷ ts)) token in
     rw parts (only_gaps gaps steps at (text ++ rest) (listed (t ∷ ts)) h.3 (rw (← parts) enough) all)
+
+-- What reads bytes is their tokens, wherever the first byte lies.
+pub only_from : (at : ℕ) (bytes : List ℕ) (ts : List Token) → Reads at ts bytes → tokens_behind_place at bytes ≡ listed ts
+unfolding tokens_behind_place
+only_from at bytes ts h = only_in ts (length bytes) at bytes h (omega arith)
 
 -- What reads a text is its tokens.
 pub only : (bytes : List ℕ) (ts : List Token) → Reads 0 ts bytes → tokens_of bytes ≡ listed ts

@@ -33,6 +33,10 @@ tokens_in zero at bytes = Ok []
 tokens_in (suc steps) at [] = Ok []
 tokens_in (suc steps) at (b ∷ bs) = tokens_behind at (front at (b ∷ bs)) (λ len. tokens_in steps (at + len) (drop len (b ∷ bs)))
 
+-- The tokens of bytes of which the first lies at a place, or their first fault.
+unfoldable pub tokens_behind_place : ℕ → List ℕ → Result (List Token) LexErr
+tokens_behind_place at bytes = tokens_in (length bytes) at bytes
+
 -- The tokens of a text, or its first fault; never want of memory.
 unfoldable pub tokens_of : List ℕ → Result (List Token) LexErr
 tokens_of bytes = tokens_in (length bytes) 0 bytes

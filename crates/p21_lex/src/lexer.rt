@@ -1,10 +1,10 @@
 //! The tokens of a whole text.
 
-ghost use Rattle.std.specs.Prelude.{◌≡◌, ◌≢◌, ◌↔◌, ◌⊎◌, ℕ, ◌≤◌, ◌+◌, ◌++◌, List, [], length, Ok, Err, OnOk, IfOk, IfErr, All, AllPairs};
+ghost use Rattle.std.specs.Prelude.{◌≡◌, ◌≢◌, ◌↔◌, ◌⊎◌, ℕ, ◌≤◌, ◌+◌, ◌++◌, List, [], length, drop, Ok, Err, OnOk, IfOk, IfErr, All, AllPairs};
 ghost use Rattle.p21_lex.specs.Front.{piece_len};
 ghost use Rattle.p21_lex.specs.Reading.{Reads, IsToken, Spells, Stops};
-ghost use Rattle.p21_lex.specs.Refusal.{IsRefused};
-ghost use Rattle.p21_lex.specs.Tokens.{Gives, piece_tokens, tokens_of};
+ghost use Rattle.p21_lex.specs.Refusal.{IsRefused, IsRefusedFrom};
+ghost use Rattle.p21_lex.specs.Tokens.{Gives, piece_tokens, tokens_of, tokens_behind_place};
 ghost use Rattle.p21_lex.specs.declared.error.LexErr.{LexErr};
 ghost use Rattle.p21_lex.specs.declared.token.Token.{Token};
 ghost use Rattle.p21_lex.specs.declared.token.TokenKind.{TokenKind};
@@ -33,13 +33,14 @@ pub fn add(found: &mut Vec<Token>, at: u32, piece: Piece) -> Result<(), LexErr>
     Ok(())
 }
 
-fn all(alloc: Global, bytes: &[u8]) -> Result<Vec<Token>, LexErr>
-    requires { length bytes.now ≤ MAX_TEXT }
-    ensures { Gives (λ v. v.items) result (tokens_of bytes.now) }
+fn all(alloc: Global, bytes: &[u8], from: u32) -> Result<Vec<Token>, LexErr>
+    requires short { length bytes.now ≤ MAX_TEXT }
+    requires from { from ≤ length bytes.now }
+    ensures { Gives (λ v. v.items) result (tokens_behind_place from (drop from bytes.now)) }
 {
     let mut found = Vec::new(alloc);
-    let mut at: u32 = 0;
-    let mut rest = bytes;
+    let mut at = from;
+    let mut rest = &bytes[from as usize..];
     while !rest.is_empty() {
         let piece = next_piece(at, rest)?;
         let len = piece.len();
@@ -71,7 +72,28 @@ pub fn tokens(alloc: Global, bytes: &[u8]) -> Result<Vec<Token>, LexErr>
     ensures inside { IfOk result (λ v. All (IsToken bytes.now) v.items) }
     ensures ordered { IfOk result (λ v. AllPairs (λ t u. t.end ≤ u.start) v.items) }
 {
-    all(alloc, bytes)
+    all(alloc, bytes, 0)
+}
+
+/// The tokens of a text from the place `from` on, which is a byte offset of the whole text, as each token's places are. What stands before
+/// it is not looked at. Where tokens read the text up to that place, these are the ones behind them.
+///
+/// # Errors
+/// The first fault from left to right, with its place in the whole text. Or `NoMemory`, where memory runs out.
+pub fn tokens_from(alloc: Global, bytes: &[u8], from: u32) -> Result<Vec<Token>, LexErr>
+    requires short { length bytes.now ≤ MAX_TEXT }
+    requires from { from ≤ length bytes.now }
+    // What is found reads the text from the place on.
+    ensures found { IfOk result (λ v. Reads from v.items (drop from bytes.now)) }
+    // What reads it is found, unless memory runs out.
+    ensures only { (ts : List Token) → Reads from ts (drop from bytes.now) → Gives (λ v. v.items) result (Ok ts) }
+    // What is refused has this fault, and what has a fault is refused for it, unless memory runs out.
+    ensures refused { IfErr result (λ e. (e ≡ LexErr.NoMemory) ⊎ IsRefusedFrom from (drop from bytes.now) e) }
+    ensures refuses { (e : LexErr) → IsRefusedFrom from (drop from bytes.now) e → Gives (λ v. v.items) result (Err e) }
+    // Where the tokens lie in the whole text.
+    ensures inside { IfOk result (λ v. All (IsToken bytes.now) v.items) }
+{
+    all(alloc, bytes, from)
 }
 
 /// What holds of the tokens of a text, for a caller that has them from elsewhere. It does nothing.

@@ -1,20 +1,20 @@
 -- Instances that make an exchange, one after the other, and the exchange under the standard header.
-use Rattle.std.proofs.Common.{◌≡◌, ℕ, suc, ◌+◌, ◌<◌, ◌≤◌, nat_eq, Bool, true, false, List, [], ◌∷◌, ◌++◌, length, map, take, codes, refl, sym, ap, subst, ◌∙◌, length-append, inl, inr, zero, not, cond, get_or, add-one, ◌↔◌, IsTrue, Some, arith}
+use Rattle.std.proofs.Common.{◌≡◌, ℕ, suc, ◌+◌, ◌<◌, ◌≤◌, nat_eq, Bool, true, false, List, [], ◌∷◌, ◌++◌, length, map, take, codes, refl, sym, ap, subst, ◌∙◌, length-append, inr, zero, get_or, add-one, ◌↔◌, IsTrue, Some, arith}
 use Rattle.std.specs.List.{AllByRecursion, IsDistinct}
 use Rattle.std.proofs.lemmas.List.{map_push, length-map, length-take, take_all}
 use Rattle.p21_parse.specs.declared.exchange.Instance.{Instance}
 use Rattle.p21_parse.specs.View.{instance_of}
 use Rattle.p21_lex.specs.declared.token.TokenKind.TheVariants as kinds
-use Rattle.p21_parse.specs.Tree.{one, Trees, none, first, listed, PartTree, InstanceTree, ExchangeTree}
+use Rattle.p21_parse.specs.Tree.{one, listed, PartTree, InstanceTree, ExchangeTree}
 use Rattle.p21_parse.specs.Symbol.{Symbol, keyword, dashed, opening, semicolon}
-use Rattle.p21_parse.specs.Spell.{spell_all, spell_part, spell_entry, spell_instance, spell_file}
-use Rattle.p21_parse.specs.Grammar.{IsInstance, IsHead, IsExchange}
-use Rattle.p21_parse.specs.Nesting.{greatest, part_nesting, instance_nesting}
+use Rattle.p21_parse.specs.Spell.{spell_all, spell_part, spell_entry, spell_instance}
+use Rattle.p21_parse.specs.Grammar.{IsInstance, IsHead}
+use Rattle.p21_parse.specs.Nesting.{greatest, instance_nesting}
 use Rattle.p21_parse.specs.Begins.{IsSymbol}
 use Rattle.p21_parse.specs.Spelled.{IsSpelledInstance, IsSpelled}
-use Rattle.p21_parse.specs.Allowed.{own_number_of, IsAllowed, AreAllowed}
+use Rattle.p21_parse.specs.Allowed.{own_number_of, IsAllowed}
 use Rattle.p21_parse.specs.Built.{AreValid, AreFitting, IsFirstInvalid, IsValid, Fits, empty_text, one_empty, standard_description, standard_name, standard_schema, standard_head}
-use Rattle.p21_parse.proofs.Parting.{are_all, greatest_more}
+use Rattle.p21_parse.proofs.Parting.{are_all}
 use Rattle.p21_parse.specs.Names.{IsFirstRepeat}
 use Rattle.p21_parse.proofs.Finish.{word_each, endsec_real}
 use Rattle.p21_parse.proofs.Appends.{longer_part, longer_instance}

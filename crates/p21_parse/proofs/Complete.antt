@@ -10,6 +10,7 @@ use Rattle.p21_parse.specs.Symbol.{Symbol, keyword, opening, closing, semicolon}
 use Rattle.p21_parse.specs.Spell.{spell, spell_list, spell_more, spell_all, spell_part, spell_parts, spell_entry, spell_instance, spell_file}
 use Rattle.p21_parse.specs.Grammar.{IsParameter, AreParameters, IsPart, HasParts, IsInstance, IsNamed, IsText, AreTexts, IsTextList, IsSchema, IsEntry, IsHead, IsExchange}
 use Rattle.p21_parse.specs.Nesting.{nesting, nestings, greatest, part_nesting, instance_nesting, exchange_nesting}
+use Rattle.p21_parse.specs.Source.{spell_start}
 use Rattle.p21_parse.specs.Machine.{Item, fixed, parameter, parameter_list, more_parameters, schema, more_schemas, part, more_parts, body, instances, entries, Outcome, done, deep, goes_on, run, entry_or, counted, named, data_word, endsec, end_iso, end_items, data_items, schema_items, file_items}
 
 below : (most n : ℕ) → n ≤ most → nat_lt most n ≡ false
@@ -174,6 +175,19 @@ module _ (most : ℕ) where
       step most 0 _ _ (omega arith) ∙ step most 0 _ _ (omega arith) ∙ run-instances items end_items (endsec ∷ semicolon ∷ end_iso ∷ semicolon ∷ []) ok h
       ∙ run-endsec end_items (semicolon ∷ end_iso ∷ semicolon ∷ [])
       ∙ step most 0 _ _ (omega arith) ∙ step most 0 _ _ (omega arith) ∙ step most 0 _ _ (omega arith)
+
+  -- what stands in it before the instances' last word
+  data_runs : (items : List InstanceTree) (rest : List Symbol) → AllByRecursion IsInstance items → greatest instance_nesting items ≤ most
+      → run most 0 data_items (data_word ∷ semicolon ∷ spell_all spell_instance items rest) ≡ run most 0 (instances ∷ end_items) rest
+  unfolding data_items
+  data_runs items rest ok h = step most 0 _ _ (omega arith) ∙ step most 0 _ _ (omega arith) ∙ run-instances items end_items rest ok h
+
+  -- The front of a file is read up to the end of its instances.
+  pub start_runs : (x : ExchangeTree) (rest : List Symbol) → IsExchange x → exchange_nesting x ≤ most → run most 0 file_items (spell_start x.head (spell_all spell_instance x.items rest)) ≡ run most 0 (instances ∷ end_items) rest
+  unfolding file_items
+  start_runs x rest ok h =
+      step most 0 _ _ (omega arith) ∙ step most 0 _ _ (omega arith) ∙ step most 0 _ _ (omega arith) ∙ step most 0 _ _ (omega arith)
+      ∙ run-head x.head (data_word ∷ semicolon ∷ spell_all spell_instance x.items rest) ok.head (omega arith) ∙ data_runs x.items rest ok.items (omega arith)
 
   -- A whole file is read to its end.
   pub file_runs : (x : ExchangeTree) → IsExchange x → exchange_nesting x ≤ most → run most 0 file_items (spell_file x) ≡ done 0 []

@@ -9,7 +9,7 @@ use Rattle.p21_lex.specs.Reading.{IsToken}
 use Rattle.p21_parse.specs.Tree.{ExchangeTree}
 use Rattle.p21_parse.specs.Symbol.{Symbol, name, semicolon, symbols}
 use Rattle.p21_parse.specs.Spell.{spell_file}
-use Rattle.p21_parse.specs.Numbers.{own_number}
+use Rattle.p21_parse.specs.Numbers.{own_number, is_behind}
 use Rattle.p21_parse.specs.Machine.{endsec, end_iso, Outcome, done, stuck, deep, run, file_items}
 use Rattle.p21_parse.specs.Places.{Refusal, syntax, too_deep, too_many, duplicate, place_of}
 use Rattle.p21_parse.specs.Refused.{file_numbers, RefusedAt}
@@ -18,7 +18,7 @@ use Rattle.p21_parse.proofs.Leaves.{left_of, above}
 use Rattle.p21_parse.proofs.Sound.{not_above}
 use Rattle.p21_parse.proofs.SoundFile.{file_read}
 use Rattle.p21_parse.proofs.Named.{left_within}
-use Rattle.p21_parse.proofs.Owned.{behind_semicolon, numbers_last, file_to_numbers}
+use Rattle.p21_parse.proofs.Owned.{numbers_last, file_to_numbers}
 use Rattle.p21_parse.proofs.Refusals.{IsNumbered, file_syntax, file_goes_on, file_too_deep, file_too_many, file_duplicate}
 
 last_apart : (x n : ℕ) (xs : List ℕ) → AllByRecursion (λ y. nat_eq x y ≡ false) (xs ++ n ∷ []) → nat_eq x n ≡ false
@@ -58,9 +58,9 @@ adds true s = inl refl
 module _ (front : List Symbol) (w : IsNumbered front) where
   -- one symbol on
   one_on : (s : Symbol) (more : List Symbol) → IsNumbered (front ++ s ∷ []) ⊎ Bad (front ++ s ∷ more)
-  one_on s more = by_number (adds (behind_semicolon false front) s)
+  one_on s more = by_number (adds (is_behind false front) s)
     where
-      by_number : (own_number (behind_semicolon false front) s [] ≡ []) ⊎ ((n : ℕ) × (s ≡ name n) × (own_number (behind_semicolon false front) s [] ≡ n ∷ [])) → IsNumbered (front ++ s ∷ []) ⊎ Bad (front ++ s ∷ more)
+      by_number : (own_number (is_behind false front) s [] ≡ []) ⊎ ((n : ℕ) × (s ≡ name n) × (own_number (is_behind false front) s [] ≡ n ∷ [])) → IsNumbered (front ++ s ∷ []) ⊎ Bad (front ++ s ∷ more)
       by_number (inl e) =
           let same : file_numbers (front ++ s ∷ []) ≡ file_numbers front = numbers_last false front s ∙ ap (λ (ns : List ℕ). file_numbers front ++ ns) e ∙ append-nil (file_numbers front) in
           inl (record { few = subst (λ (ns : List ℕ). length ns ≤ 200000) (sym same) w.few; distinct = subst (IsDistinct nat_eq) (sym same) w.distinct })

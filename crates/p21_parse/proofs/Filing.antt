@@ -1,6 +1,5 @@
 -- Reading a whole file.
-use Rattle.std.proofs.Common.{◌≡◌, ℕ, suc, ◌+◌, ◌-◌, ◌<◌, ◌≤◌, List, [], ◌∷◌, ◌++◌, length, drop, refl, sym, ap, subst, ◌∙◌, arith, append_assoc, inl, inr}
-use Rattle.std.specs.Prelude.{◌⊎◌, max}
+use Rattle.std.proofs.Common.{◌≡◌, ℕ, ◌<◌, ◌≤◌, List, [], ◌∷◌, ◌++◌, length, refl, sym, ap, subst, ◌∙◌, arith, inl, inr}
 use Rattle.std.specs.List.{AllByRecursion}
 use Rattle.std.proofs.lemmas.List.{drop_all}
 use Rattle.p21_parse.specs.declared.source.Source.{Source}
@@ -8,11 +7,11 @@ use Rattle.p21_parse.specs.declared.source.Stop.{Stop}
 use Rattle.p21_parse.specs.declared.source.Stop.TheVariants.{Syntax, TooDeep, NoMemory}
 use Rattle.p21_parse.specs.Tree.{PartTree, InstanceTree, ExchangeTree}
 use Rattle.p21_parse.specs.Symbol.{Symbol, value, name, keyword, dashed, opening, closing, comma, semicolon, equals, symbols}
-use Rattle.p21_parse.specs.Spell.{spell_entry, spell_instance, spell_all, spell_file}
-use Rattle.p21_parse.specs.Grammar.{IsHead, IsInstance, IsExchange}
-use Rattle.p21_parse.specs.Nesting.{part_nesting, instance_nesting, greatest, exchange_nesting}
-use Rattle.p21_parse.specs.Machine.{Item, fixed, instances, iso, header, data_word, endsec, end_iso, file_items, schema_items, data_items, end_items, Outcome, done, stuck, run}
-use Rattle.p21_parse.specs.Source.{from, Stops, IsRead, IsRefused, AreRead, AreRefused, HasNoName, phrase, head_items, start_items, last_items, spell_start, spell_last, FileRead, FileStops}
+use Rattle.p21_parse.specs.Spell.{spell_entry, spell_instance, spell_all}
+use Rattle.p21_parse.specs.Grammar.{IsHead, IsInstance}
+use Rattle.p21_parse.specs.Nesting.{part_nesting, instance_nesting, greatest}
+use Rattle.p21_parse.specs.Machine.{Item, fixed, instances, iso, header, data_word, endsec, end_iso, file_items, schema_items, data_items, end_items, Outcome, done, run}
+use Rattle.p21_parse.specs.Source.{from, Stops, IsRead, IsRefused, AreRead, AreRefused, HasNoName, phrase, head_items, start_items, last_items, spell_start, spell_last, RestRead, FileRead, FileStops}
 use Rattle.p21_parse.proofs.Moves.{both, first_refused, second_refused}
 
 module _ (s : Source) where
@@ -80,42 +79,52 @@ module _ (s : Source) where
   ends_alike (semicolon ∷ ss) stack h = refl
   ends_alike (equals ∷ ss) stack h = refl
 
-  -- the machine up to the last words
-  counted : (at rest : ℕ) (f g : List Symbol → List Symbol) → IsRead s 0 0 start_items 0 at f → AreRead s at rest g → HasNoName (from s rest) → run 32 0 file_items (from s 0) ≡ run 32 0 (last_items ++ []) (from s rest)
-  counted at rest f g read are none_more =
-      begun at f read ∙ are.goes end_items ∙ ends_alike (from s rest) end_items none_more ∙ ap (λ (is : List Item). run 32 0 is (from s rest)) (sym last_is)
+  -- the machine from the instances up to the last words
+  rest_counted : (at rest : ℕ) (g : List Symbol → List Symbol) → AreRead s at rest g → HasNoName (from s rest) → run 32 0 (instances ∷ end_items) (from s at) ≡ run 32 0 (last_items ++ []) (from s rest)
+  rest_counted at rest g are none_more =
+      are.goes end_items ∙ ends_alike (from s rest) end_items none_more ∙ ap (λ (is : List Item). run 32 0 is (from s rest)) (sym last_is)
 
   as_file : (e : Stop) (o : Outcome) → Stops s e o → FileStops s e o
   as_file (Syntax at) o h = (h.0, inl h.1)
   as_file (TooDeep at) o h = h
   as_file NoMemory o h = tt
 
-  pub file_refused_1 : (e : Stop) → IsRefused s 0 start_items 0 e → FileStops s e (run 32 0 file_items (from s 0))
-  file_refused_1 e refused = as_file e (run 32 0 file_items (from s 0)) (subst (Stops s e) (sym (ap (λ (is : List Item). run 32 0 is (from s 0)) file_is)) (refused (instances ∷ end_items)))
+  pub rest_refused_1 : (at : ℕ) (e : Stop) → AreRefused s at e → FileStops s e (run 32 0 (instances ∷ end_items) (from s at))
+  rest_refused_1 at e refused = as_file e (run 32 0 (instances ∷ end_items) (from s at)) (refused end_items)
 
-  pub file_refused_2 : (at : ℕ) (f : List Symbol → List Symbol) (e : Stop) → IsRead s 0 0 start_items 0 at f → AreRefused s at e → FileStops s e (run 32 0 file_items (from s 0))
-  file_refused_2 at f e read refused = as_file e (run 32 0 file_items (from s 0)) (subst (Stops s e) (sym (begun at f read)) (refused end_items))
+  pub rest_refused_2 : (at rest : ℕ) (g : List Symbol → List Symbol) (e : Stop) → AreRead s at rest g → HasNoName (from s rest) → IsRefused s 0 last_items rest e → FileStops s e (run 32 0 (instances ∷ end_items) (from s at))
+  rest_refused_2 at rest g e are none_more refused = as_file e (run 32 0 (instances ∷ end_items) (from s at)) (subst (Stops s e) (sym (rest_counted at rest g are none_more)) (refused []))
 
-  pub file_refused_3 : (at rest : ℕ) (f g : List Symbol → List Symbol) (e : Stop) → IsRead s 0 0 start_items 0 at f → AreRead s at rest g → HasNoName (from s rest) → IsRefused s 0 last_items rest e → FileStops s e (run 32 0 file_items (from s 0))
-  file_refused_3 at rest f g e read are none_more refused = as_file e (run 32 0 file_items (from s 0)) (subst (Stops s e) (sym (counted at rest f g read are none_more)) (refused []))
-
-  ended : (at rest end : ℕ) (f g h : List Symbol → List Symbol) → IsRead s 0 0 start_items 0 at f → AreRead s at rest g → HasNoName (from s rest) → IsRead s 0 0 last_items rest end h → run 32 0 file_items (from s 0) ≡ done 0 (from s end)
-  ended at rest end f g h read are none_more last = counted at rest f g read are none_more ∙ last.goes []
+  ended : (at rest end : ℕ) (g h : List Symbol → List Symbol) → AreRead s at rest g → HasNoName (from s rest) → IsRead s 0 0 last_items rest end h → run 32 0 (instances ∷ end_items) (from s at) ≡ done 0 (from s end)
+  ended at rest end g h are none_more last = rest_counted at rest g are none_more ∙ last.goes []
 
   -- tokens follow
-  pub file_late : (at rest end : ℕ) (f g h : List Symbol → List Symbol) → IsRead s 0 0 start_items 0 at f → AreRead s at rest g → HasNoName (from s rest) → IsRead s 0 0 last_items rest end h → end < length s.tokens.now
-      → FileStops s (Syntax end) (run 32 0 file_items (from s 0))
-  file_late at rest end f g h read are none_more last lt = (omega arith, inr (lt, ended at rest end f g h read are none_more last))
+  pub rest_late : (at rest end : ℕ) (g h : List Symbol → List Symbol) → AreRead s at rest g → HasNoName (from s rest) → IsRead s 0 0 last_items rest end h → end < length s.tokens.now
+      → FileStops s (Syntax end) (run 32 0 (instances ∷ end_items) (from s at))
+  rest_late at rest end g h are none_more last lt = (omega arith, inr (lt, ended at rest end g h are none_more last))
 
   no_more : (end : ℕ) → length s.tokens.now ≤ end → from s end ≡ []
   no_more end le = ap (symbols s.bytes.now) (drop_all end s.tokens.now le)
 
-  pub file_read : (at rest end : ℕ) (x : ExchangeTree) → IsRead s 0 0 start_items 0 at (spell_start x.head) → IsHead x.head × (greatest part_nesting x.head ≤ 32) → AreRead s at rest (λ r. spell_all spell_instance x.items r) → HasNoName (from s rest)
-      → AllByRecursion IsInstance x.items × (greatest instance_nesting x.items ≤ 32) → IsRead s 0 0 last_items rest end spell_last → length s.tokens.now ≤ end → FileRead s x
-  file_read at rest end x read head are none_more items last le = record {
-    grammar = record { head = head.0; items = items.0 };
-    shallow = omega (arith, head.1, items.1);
-    spells =
-        read.spells ∙ ap (spell_start x.head) (are.spells ∙ ap (λ (ss : List Symbol). spell_all spell_instance x.items ss) (last.spells ∙ ap spell_last (no_more end le)));
-    goes = ended at rest end (spell_start x.head) (λ r. spell_all spell_instance x.items r) spell_last read are none_more last ∙ ap (λ (ss : List Symbol). done 0 ss) (no_more end le);
+  pub rest_read : (at rest end : ℕ) (items : List InstanceTree) → AreRead s at rest (λ r. spell_all spell_instance items r) → HasNoName (from s rest) → AllByRecursion IsInstance items × (greatest instance_nesting items ≤ 32)
+      → IsRead s 0 0 last_items rest end spell_last → length s.tokens.now ≤ end → RestRead s at items
+  rest_read at rest end items are none_more ok last le = record {
+    grammar = ok.0;
+    shallow = ok.1;
+    spells = are.spells ∙ ap (λ (ss : List Symbol). spell_all spell_instance items ss) (last.spells ∙ ap spell_last (no_more end le));
+    goes = ended at rest end (λ r. spell_all spell_instance items r) spell_last are none_more last ∙ ap (λ (ss : List Symbol). done 0 ss) (no_more end le);
+  }
+
+  pub file_refused_1 : (e : Stop) → IsRefused s 0 start_items 0 e → FileStops s e (run 32 0 file_items (from s 0))
+  file_refused_1 e refused = as_file e (run 32 0 file_items (from s 0)) (subst (Stops s e) (sym (ap (λ (is : List Item). run 32 0 is (from s 0)) file_is)) (refused (instances ∷ end_items)))
+
+  pub file_refused_2 : (at : ℕ) (f : List Symbol → List Symbol) (e : Stop) → IsRead s 0 0 start_items 0 at f → FileStops s e (run 32 0 (instances ∷ end_items) (from s at)) → FileStops s e (run 32 0 file_items (from s 0))
+  file_refused_2 at f e read refused = subst (FileStops s e) (sym (begun at f read)) refused
+
+  pub file_read : (at : ℕ) (x : ExchangeTree) → IsRead s 0 0 start_items 0 at (spell_start x.head) → IsHead x.head × (greatest part_nesting x.head ≤ 32) → RestRead s at x.items → FileRead s x
+  file_read at x read head rest = record {
+    grammar = record { head = head.0; items = rest.grammar };
+    shallow = omega (arith, head.1, rest.shallow);
+    spells = read.spells ∙ ap (spell_start x.head) rest.spells;
+    goes = begun at (spell_start x.head) read ∙ rest.goes;
   }

@@ -1,15 +1,14 @@
 -- Which parameters, parts and instances can stand in a file, from what they are made of.
-use Rattle.std.proofs.Common.{◌≡◌, ℕ, suc, ◌+◌, ◌-◌, ◌<◌, ◌≤◌, Bool, true, false, List, [], ◌∷◌, ◌++◌, length, refl, sym, ap, subst, ◌∙◌, ◌↔◌, IsTrue, get_or, map, zero, arith}
+use Rattle.std.proofs.Common.{◌≡◌, ℕ, suc, ◌-◌, ◌<◌, ◌≤◌, Bool, true, false, List, [], ◌∷◌, ◌++◌, length, refl, sym, subst, ◌↔◌, IsTrue, get_or, map, zero, arith}
 use Rattle.std.specs.List.{AllByRecursion}
 use Rattle.p21_lex.specs.declared.token.TokenKind.{TokenKind}
 use Rattle.p21_lex.specs.declared.token.TokenKind.TheVariants as kinds
-use Rattle.p21_parse.specs.Tree.{Tree, one, reference, list, typed, Trees, none, first, listed, count, PartTree, InstanceTree}
+use Rattle.p21_parse.specs.Tree.{one, list, Trees, none, first, listed, PartTree, InstanceTree}
 use Rattle.p21_parse.specs.Symbol.{Symbol, value, name, keyword, opening, closing, comma, semicolon, equals}
-use Rattle.p21_parse.specs.Spell.{spell, spell_list, spell_more, spell_all, spell_part, spell_parts, spell_instance}
+use Rattle.p21_parse.specs.Spell.{spell, spell_list, spell_more, spell_all, spell_part, spell_parts}
 use Rattle.p21_parse.specs.Grammar.{AreParameters, IsPart, HasParts}
-use Rattle.p21_parse.specs.Nesting.{nesting, nestings, greatest, part_nesting, instance_nesting}
+use Rattle.p21_parse.specs.Nesting.{nestings, greatest, part_nesting}
 use Rattle.p21_parse.specs.Begins.{IsSymbol}
-use Rattle.p21_parse.specs.Spelled.{IsSpelledInstance}
 use Rattle.p21_parse.specs.Built.{Fits, IsValidPart, IsValid}
 use Rattle.p21_parse.proofs.Finish.{real_append}
 use Rattle.p21_parse.proofs.Named.{real_front, real_back}

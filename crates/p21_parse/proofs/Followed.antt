@@ -1,25 +1,23 @@
 -- Instances from a token on, of which there may be so many.
-use Rattle.std.proofs.Common.{◌≡◌, ℕ, zero, suc, ◌+◌, ◌-◌, ◌<◌, ◌≤◌, List, [], ◌∷◌, ◌++◌, length, drop, refl, sym, ap, subst, ◌∙◌, length-append, arith}
+use Rattle.std.proofs.Common.{◌≡◌, ℕ, zero, suc, ◌+◌, ◌-◌, ◌<◌, ◌≤◌, List, [], ◌∷◌, ◌++◌, length, drop, sym, ap, subst, ◌∙◌, length-append, arith}
 use Rattle.std.specs.List.{AllByRecursion, concat}
 use Rattle.p21_lex.specs.declared.token.Token.{Token}
 use Rattle.p21_lex.specs.Reading.{Reads, IsToken}
 use Rattle.p21_parse.specs.declared.error.ReadErr.{ReadErr}
-use Rattle.p21_parse.specs.declared.error.ReadErr.TheVariants as errors
 use Rattle.p21_parse.specs.declared.source.Source.{Source}
 use Rattle.p21_parse.specs.declared.source.Stop.{Stop}
 use Rattle.p21_parse.specs.declared.source.Stop.TheVariants.{Syntax, TooDeep, NoMemory}
 use Rattle.p21_parse.specs.Tree.{InstanceTree, ExchangeTree}
-use Rattle.p21_parse.specs.Symbol.{Symbol, value, name, keyword, dashed, opening, closing, comma, semicolon, equals}
+use Rattle.p21_parse.specs.Symbol.{name, semicolon}
 use Rattle.p21_parse.specs.Spell.{spell_all, spell_instance}
 use Rattle.p21_parse.specs.Begins.{IsSymbol}
 use Rattle.p21_parse.specs.Spelled.{IsSpelled}
 use Rattle.p21_parse.specs.Text.{IsText}
 use Rattle.p21_parse.specs.Places.{syntax, too_deep, too_many, start_of, place_of}
 use Rattle.p21_parse.specs.Refused.{RefusedFrom}
-use Rattle.p21_parse.specs.Allowed.{AreAllowed, IsNoName}
-use Rattle.p21_parse.specs.Machine.{Item, fixed, behind_name, instances, stuck, deep, run}
-use Rattle.p21_parse.specs.Source.{IsSource, from, Has, HasNoName, IsRefused}
-use Rattle.p21_parse.specs.Following.{AreInstancesFrom, AreRefusedFrom, IsFaultOf}
+use Rattle.p21_parse.specs.Machine.{fixed, behind_name, instances, run}
+use Rattle.p21_parse.specs.Source.{IsSource, from, Has, IsRefused}
+use Rattle.p21_parse.specs.Following.{AreRefusedFrom, IsFaultOf}
 use Rattle.p21_parse.proofs.Moves.{left}
 use Rattle.p21_parse.proofs.Named.{symbols_real}
 use Rattle.p21_parse.proofs.Parting.{Counted}

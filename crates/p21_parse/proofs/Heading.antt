@@ -1,5 +1,5 @@
 -- Reading the header section.
-use Rattle.std.proofs.Common.{◌≡◌, ℕ, zero, suc, ◌+◌, ◌-◌, ◌<◌, ◌≤◌, Bool, true, false, cond, List, [], ◌∷◌, ◌++◌, length, codes, Option, Some, None, refl, sym, ap, subst, ◌∙◌, arith, append_assoc}
+use Rattle.std.proofs.Common.{◌≡◌, ℕ, zero, suc, ◌+◌, ◌<◌, ◌≤◌, Bool, true, false, cond, List, [], ◌∷◌, ◌++◌, length, codes, refl, sym, ap, subst, ◌∙◌, arith, append_assoc}
 use Rattle.std.specs.Str.{bytes_eq}
 use Rattle.std.specs.List.{AllByRecursion}
 use Rattle.std.proofs.lemmas.List.{append-nil}
@@ -7,17 +7,16 @@ use Rattle.std.proofs.lemmas.Slice.Eq.{bytes_eq-Decides}
 use Rattle.p21_parse.specs.declared.source.Source.{Source}
 use Rattle.p21_parse.specs.declared.source.Stop.{Stop}
 use Rattle.p21_parse.specs.declared.source.Stop.TheVariants.{Syntax}
-use Rattle.p21_parse.specs.Tree.{Tree, one, reference, list, typed, Trees, none, first, trees, count, with_last, PartTree}
+use Rattle.p21_parse.specs.Tree.{Tree, one, list, Trees, none, first, trees, count, with_last, PartTree}
 use Rattle.p21_parse.specs.Symbol.{Symbol, value, name, keyword, dashed, opening, closing, comma, semicolon, equals, word, has_hyphen}
-use Rattle.p21_parse.specs.Spell.{spell, spell_list, spell_entry, spell_part, spell_all}
-use Rattle.p21_parse.specs.Grammar.{IsParameter, AreParameters, IsText, AreTexts, IsTextList, IsNamed, IsSchema, IsEntry, IsHead, IsPart}
+use Rattle.p21_parse.specs.Spell.{spell, spell_list, spell_entry, spell_all}
+use Rattle.p21_parse.specs.Grammar.{IsParameter, AreParameters, IsText, AreTexts, IsTextList, IsNamed, IsSchema, IsEntry, IsHead}
 use Rattle.p21_parse.specs.Nesting.{nesting, nestings, part_nesting, greatest}
-use Rattle.p21_parse.specs.Machine.{Item, fixed, parameter, more_parameters, schema, more_schemas, counted, named, entries, entry_or_end, entry_or, endsec, same, on, after, open_in, goes_on, run}
-use Rattle.p21_lex.specs.declared.token.TokenKind.{TokenKind}
+use Rattle.p21_parse.specs.Machine.{Item, fixed, parameter, more_parameters, schema, more_schemas, counted, named, entries, entry_or_end, endsec, same, on, after, open_in, run}
 use Rattle.p21_lex.specs.declared.token.TokenKind.TheVariants as kinds
 use Rattle.p21_parse.specs.Source.{from, Stops, Has, IsRead, IsRefused, IsNotHead, IsOther, HasNoText, HasNoKeyword, AreNames, schema_entry, IsEnd, IsNoEnd, EntryRead, EntriesRefused, EntriesRead, head_items}
 use Rattle.p21_parse.proofs.ListLemmas.{trees-push}
-use Rattle.p21_parse.proofs.Moves.{Sticks, step, both, took, first_refused, second_refused, opened, opened_refused, stopped, instead, instead_refused, respelled}
+use Rattle.p21_parse.proofs.Moves.{Sticks, step, both, took, first_refused, second_refused, opened_refused, stopped, respelled}
 use Rattle.p21_parse.proofs.Listing.{further, further_more, further_closed, are_more, nests_more}
 use Rattle.p21_parse.proofs.Parting.{all_more, are_all, greatest_more}
 

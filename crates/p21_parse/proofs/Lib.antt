@@ -16,6 +16,8 @@ pub mod Languages
 pub mod Unique
 pub mod Appends
 pub mod Inside
+pub mod Joined
+pub mod Grown
 pub mod Named
 pub mod Refusals
 pub mod Owned
@@ -24,7 +26,9 @@ pub mod Single
 pub mod SingleList
 pub mod Filing
 pub mod Naming
+pub mod BehindLemmas
 pub mod Telling
+pub mod Resuming
 pub mod OneMeaning
 pub mod Decided
 pub mod Nested

@@ -1,10 +1,10 @@
 -- Marks: kinds of token that have one symbol alone.
-use Rattle.std.proofs.Common.{◌≡◌, ℕ, Bool, true, false, cond, List, [], ◌∷◌, Option, Some, None, refl, sym, ap, ◌∙◌}
+use Rattle.std.proofs.Common.{◌≡◌, ℕ, Bool, true, false, cond, List, [], ◌∷◌, refl, sym, ap}
 use Rattle.std.proofs.lemmas.Bool.{false≢true}
 use Rattle.p21_lex.specs.declared.token.TokenKind.{TokenKind}
-use Rattle.p21_lex.specs.declared.token.TokenKind.TheVariants.{Word, UserWord, Name, Int, Real, Text, Enumeration, Binary, Open, Close, Comma, Semicolon, Equals, Dollar, Star}
-use Rattle.p21_parse.specs.Symbol.{Symbol, value, name, keyword, dashed, opening, closing, comma, semicolon, equals, symbol, has_hyphen}
-use Rattle.p21_parse.specs.Machine.{Item, fixed, on, after, same}
+use Rattle.p21_lex.specs.declared.token.TokenKind.TheVariants.{Word, Open, Close, Comma, Semicolon, Equals}
+use Rattle.p21_parse.specs.Symbol.{Symbol, keyword, dashed, opening, closing, comma, semicolon, equals, symbol, has_hyphen}
+use Rattle.p21_parse.specs.Machine.{fixed, on, same}
 use Rattle.p21_parse.specs.Source.{IsMark, IsNotHead}
 use Rattle.p21_parse.proofs.Moves.{Sticks}
 

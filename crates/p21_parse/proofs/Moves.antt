@@ -1,12 +1,12 @@
 -- How what a reader finds is put together from steps, and where it stops.
-use Rattle.std.proofs.Common.{◌≡◌, ℕ, suc, ◌+◌, ◌-◌, ◌<◌, ◌≤◌, Bool, true, false, List, [], ◌∷◌, ◌++◌, length, drop, Option, Some, None, refl, sym, ap, subst, ◌∙◌, append_assoc, arith, nat_lt}
+use Rattle.std.proofs.Common.{◌≡◌, ℕ, ◌+◌, ◌-◌, ◌<◌, ◌≤◌, true, false, List, [], ◌∷◌, ◌++◌, length, drop, Option, Some, None, refl, sym, ap, subst, ◌∙◌, append_assoc, arith, nat_lt}
 use Rattle.std.proofs.lemmas.Bool.Decides.{nat_tests}
 use Rattle.std.proofs.lemmas.List.{length-map, length-drop}
 use Rattle.p21_parse.specs.declared.source.Source.{Source}
 use Rattle.p21_parse.specs.declared.source.Stop.{Stop}
-use Rattle.p21_parse.specs.declared.source.Stop.TheVariants.{Syntax, TooDeep, NoMemory}
+use Rattle.p21_parse.specs.declared.source.Stop.TheVariants.{Syntax, TooDeep}
 use Rattle.p21_parse.specs.Symbol.{Symbol, symbol_of}
-use Rattle.p21_parse.specs.Machine.{Item, Outcome, stuck, deep, after, open_in, goes_on, run}
+use Rattle.p21_parse.specs.Machine.{Item, stuck, deep, after, open_in, goes_on, run}
 use Rattle.p21_parse.specs.Source.{from, Stops, Has, IsRead, IsRefused}
 
 pub fine : (n : ℕ) → n ≤ 32 → nat_lt 32 n ≡ false

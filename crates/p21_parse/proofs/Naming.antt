@@ -1,23 +1,23 @@
 -- The names of instances, one token after the other.
-use Rattle.std.proofs.Common.{◌≡◌, ℕ, zero, suc, ◌+◌, ◌-◌, ◌<◌, ◌≤◌, nat_eq, Bool, true, false, List, [], ◌∷◌, ◌++◌, length, map, take, drop, refl, sym, ap, subst, ◌∙◌, arith, append_assoc, length-append, get_or, add-one, drop-cons, Option, Some, None, IfSome, ◌⊎◌, inl, inr}
+use Rattle.std.proofs.Common.{◌≡◌, ℕ, zero, suc, ◌+◌, ◌<◌, ◌≤◌, nat_eq, Bool, true, false, List, [], ◌∷◌, ◌++◌, length, take, drop, refl, sym, ap, subst, ◌∙◌, arith, append_assoc, length-append, get_or, add-one, drop-cons, Option, Some, None, IfSome, ◌⊎◌, inl, inr}
 use Rattle.std.specs.Option.{IfNone}
 use Rattle.std.specs.List.{IsDistinct}
 use Rattle.std.proofs.lemmas.Bool.{cases_lt}
 use Rattle.p21_lex.specs.declared.token.TokenKind.TheVariants.{Int}
-use Rattle.std.proofs.lemmas.List.{take-append-drop, drop-map, length-map, take_all, take-append-le, append-nil, take_more, length-take}
+use Rattle.std.proofs.lemmas.List.{take-append-drop, drop-map, take_all, take-append-le, append-nil, take_more, length-take}
 use Rattle.std.proofs.Math.Seq.{take-append_seam, get_or-append_seam}
 use Rattle.std.proofs.Math.ListN.{get_or-append}
 use Rattle.p21_parse.specs.declared.source.Source.{Source}
 use Rattle.p21_parse.specs.declared.names.NameFault.TheVariants.{TooMany, Duplicate}
 use Rattle.p21_parse.specs.Symbol.{Symbol, value, name, keyword, dashed, opening, closing, comma, semicolon, equals, symbol_of, symbols}
-use Rattle.p21_parse.specs.Numbers.{own_number, is_semicolon, numbers_in}
+use Rattle.p21_parse.specs.Numbers.{is_semicolon, numbers_in, is_behind}
 use Rattle.p21_parse.specs.Refused.{file_numbers}
 use Rattle.p21_parse.specs.Source.{from, Has, IsNotHead, HasNoName}
-use Rattle.p21_parse.specs.Names.{before, IsOwn, HasNoOwn, AreFine, FaultAt, NamesAre, AreNumbers, AreOwn, IsFirstRepeat}
+use Rattle.p21_parse.specs.Names.{before, IsOwn, HasNoOwn, AreFine, NamesAre, AreNumbers, AreOwn, IsFirstRepeat}
 use Rattle.p21_parse.proofs.Moves.{left}
-use Rattle.p21_parse.proofs.Owned.{behind_semicolon, numbers_append}
+use Rattle.p21_parse.proofs.Owned.{numbers_append}
 
-behind_last : (b : Bool) (ss : List Symbol) (m : Symbol) → behind_semicolon b (ss ++ m ∷ []) ≡ is_semicolon m
+behind_last : (b : Bool) (ss : List Symbol) (m : Symbol) → is_behind b (ss ++ m ∷ []) ≡ is_semicolon m
 behind_last b [] m = refl
 behind_last b (s ∷ ss) m = behind_last (is_semicolon s) ss m
 
@@ -49,11 +49,11 @@ module _ (s : Source) where
       let short : length (from s 0) ≤ at = omega (arith, left s at, left s 0, ap length none) in
       take_all (at + 1) (from s 0) (omega arith) ∙ sym (take_all at (from s 0) short)
 
-  more_numbers : (at : ℕ) (m : Symbol) → Has s at m → file_numbers (before s (at + 1)) ≡ file_numbers (before s at) ++ numbers_in (behind_semicolon false (before s at)) (m ∷ [])
+  pub more_numbers : (at : ℕ) (m : Symbol) → Has s at m → file_numbers (before s (at + 1)) ≡ file_numbers (before s at) ++ numbers_in (is_behind false (before s at)) (m ∷ [])
   more_numbers at m has = ap file_numbers (one_more at m has) ∙ numbers_append false (before s at) (m ∷ [])
 
-  behind_mark : (at : ℕ) (m : Symbol) → Has s at m → behind_semicolon false (before s (at + 1)) ≡ is_semicolon m
-  behind_mark at m has = ap (behind_semicolon false) (one_more at m has) ∙ behind_last false (before s at) m
+  behind_mark : (at : ℕ) (m : Symbol) → Has s at m → is_behind false (before s (at + 1)) ≡ is_semicolon m
+  behind_mark at m has = ap (is_behind false) (one_more at m has) ∙ behind_last false (before s at) m
 
   -- a name behind a semicolon is an instance's own
   pub owned : (at back number : ℕ) → at ≡ back + 1 → Has s back semicolon → Has s at (name number) → IsOwn s at number
@@ -61,7 +61,7 @@ module _ (s : Source) where
     has = has;
     owns =
         more_numbers at (name number) has
-        ∙ ap (λ (b : Bool). file_numbers (before s at) ++ numbers_in b (name number ∷ [])) (ap (λ (k : ℕ). behind_semicolon false (before s k)) is ∙ behind_mark back semicolon mark);
+        ∙ ap (λ (b : Bool). file_numbers (before s at) ++ numbers_in b (name number ∷ [])) (ap (λ (k : ℕ). is_behind false (before s k)) is ∙ behind_mark back semicolon mark);
   }
 
   quiet : (b : Bool) (m : Symbol) → ((n : ℕ) → m ≡ name n → ⊥) → numbers_in b (m ∷ []) ≡ []
@@ -97,11 +97,11 @@ module _ (s : Source) where
           let some : at < length s.tokens.now = omega (arith, left s at, ap length e) in
           let there = stands some in
           let same : m ∷ ss ≡ there.0 ∷ from s (at + 1) = sym e ∙ there.1.first in
-          more_numbers at there.0 there.1 ∙ ap (λ (ns : List ℕ). file_numbers (before s at) ++ ns) (quiet (behind_semicolon false (before s at)) there.0 (λ n is. other m ss n h (let first : m ≡ there.0 = cc in first ∙ is)))
+          more_numbers at there.0 there.1 ∙ ap (λ (ns : List ℕ). file_numbers (before s at) ++ ns) (quiet (is_behind false (before s at)) there.0 (λ n is. other m ss n h (let first : m ≡ there.0 = cc in first ∙ is)))
           ∙ append-nil (file_numbers (before s at))
 
   -- no semicolon before it
-  unbehind : (at : ℕ) → (at < length s.tokens.now → behind_semicolon false (before s at) ≡ false) → (at < length s.tokens.now → (m : Symbol) × Has s at m) → HasNoOwn s at
+  pub unbehind : (at : ℕ) → (at < length s.tokens.now → is_behind false (before s at) ≡ false) → (at < length s.tokens.now → (m : Symbol) × Has s at m) → HasNoOwn s at
   unbehind at b stands = by (from s at) refl
     where
       by : (ss : List Symbol) → from s at ≡ ss → HasNoOwn s at
@@ -118,11 +118,11 @@ stands s at lt =
     let e : drop at s.tokens.now ≡ t ∷ drop (at + 1) s.tokens.now = rw add-one (drop-cons s.tokens.now at (record { kind = Int; start = 0; end = 0 }) lt) in
     (symbol_of s.bytes.now t, record { within = lt; first = ap (symbols s.bytes.now) e })
 
-pub other_behind : (s : Source) (at back : ℕ) → at ≡ back + 1 → IsNotHead semicolon (from s back) → at < length s.tokens.now → behind_semicolon false (before s at) ≡ false
+pub other_behind : (s : Source) (at back : ℕ) → at ≡ back + 1 → IsNotHead semicolon (from s back) → at < length s.tokens.now → is_behind false (before s at) ≡ false
 other_behind s at back is h lt =
     let there = stands s back (omega arith) in
     let other : there.0 ≡ semicolon → ⊥ = subst (IsNotHead semicolon) there.1.first h in
-    ap (λ (k : ℕ). behind_semicolon false (before s k)) is ∙ ap (behind_semicolon false) (one_more s back there.0 there.1) ∙ behind_last false (before s back) there.0 ∙ by there.0 other
+    ap (λ (k : ℕ). is_behind false (before s k)) is ∙ ap (is_behind false) (one_more s back there.0 there.1) ∙ behind_last false (before s back) there.0 ∙ by there.0 other
   where
     by : (m : Symbol) → (m ≡ semicolon → ⊥) → is_semicolon m ≡ false
     by semicolon other = absurd (other refl)
@@ -137,7 +137,7 @@ other_behind s at back is h lt =
 
 -- no instance's own name at the first token
 pub first_token : (s : Source) (at : ℕ) → at ≡ 0 → HasNoOwn s at
-first_token s at is = unbehind s at (λ lt. ap (λ (k : ℕ). behind_semicolon false (before s k)) is) (stands s at)
+first_token s at is = unbehind s at (λ lt. ap (λ (k : ℕ). is_behind false (before s k)) is) (stands s at)
 
 -- none where no semicolon stands before
 pub unmarked : (s : Source) (at back : ℕ) → at ≡ back + 1 → IsNotHead semicolon (from s back) → HasNoOwn s at
@@ -181,7 +181,7 @@ pub record NameOf (s : Source) (end : ℕ) (numbers : List ℕ) (i : ℕ) : Type
   pub owned_there : IsOwn s at (get_or numbers i 0)
   pub before_it : file_numbers (before s at) ≡ take i numbers
 
-last_name : (s : Source) (at n : ℕ) (m : Symbol) (b : Bool) (numbers : List ℕ) (i : ℕ) → behind_semicolon false (before s at) ≡ b → Has s at m → numbers ≡ file_numbers (before s at) ++ numbers_in b (m ∷ [])
+last_name : (s : Source) (at n : ℕ) (m : Symbol) (b : Bool) (numbers : List ℕ) (i : ℕ) → is_behind false (before s at) ≡ b → Has s at m → numbers ≡ file_numbers (before s at) ++ numbers_in b (m ∷ [])
     → i < length numbers → (i < length (file_numbers (before s at)) → NameOf s at (file_numbers (before s at)) i) → n ≡ suc at → NameOf s n numbers i
 last_name s at n m b numbers i behind has are lt earlier is = by b m behind has are
   where
@@ -211,7 +211,7 @@ last_name s at n m b numbers i behind has are lt earlier is = by b m behind has 
             let owned_here : IsOwn s at number = record { has = there; owns = owns } in
             record { at = at; early = omega (arith, is); owned_there = subst (λ (k : ℕ). IsOwn s at k) value owned_here; before_it = taken }
 
-    by : (c : Bool) (m : Symbol) → behind_semicolon false (before s at) ≡ c → Has s at m → numbers ≡ front ++ numbers_in c (m ∷ []) → NameOf s n numbers i
+    by : (c : Bool) (m : Symbol) → is_behind false (before s at) ≡ c → Has s at m → numbers ≡ front ++ numbers_in c (m ∷ []) → NameOf s n numbers i
     by true (name number) e there same = new number (sym behind ∙ e) there same
     by true (value kind text) e there same = none [] refl same
     by true (keyword w) e there same = none [] refl same
@@ -227,7 +227,7 @@ pub name_of : (s : Source) (end : ℕ) (numbers : List ℕ) (i : ℕ) → end �
 name_of s zero numbers i le are lt = absurd (omega (arith, lt, ap length are))
 name_of s (suc at) numbers i le are lt =
     let there = stands s at (omega arith) in
-    let b = behind_semicolon false (before s at) in
+    let b = is_behind false (before s at) in
     let more : numbers ≡ file_numbers (before s at) ++ numbers_in b (there.0 ∷ []) = are ∙ ap (λ (k : ℕ). file_numbers (before s k)) (sym (add-one at)) ∙ more_numbers s at there.0 there.1 in
     last_name s at (suc at) there.0 b numbers i refl there.1 more lt (λ inside. name_of s at (file_numbers (before s at)) i (omega arith) refl inside) refl
 

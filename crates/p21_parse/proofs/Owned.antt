@@ -3,7 +3,7 @@ use Rattle.std.proofs.Common.{◌≡◌, ℕ, Bool, true, false, List, [], ◌�
 use Rattle.p21_parse.specs.Tree.{Tree, one, reference, list, typed, Trees, none, first, PartTree, InstanceTree}
 use Rattle.p21_parse.specs.Symbol.{Symbol, name, closing, semicolon}
 use Rattle.p21_parse.specs.Spell.{spell, spell_list, spell_more, spell_all, spell_part, spell_parts, spell_entry, spell_instance}
-use Rattle.p21_parse.specs.Numbers.{own_number, is_semicolon, numbers_in}
+use Rattle.p21_parse.specs.Numbers.{own_number, is_semicolon, numbers_in, is_behind}
 use Rattle.p21_parse.specs.Allowed.{own_number_of}
 use Rattle.p21_parse.specs.Machine.{iso, header, endsec, data_word}
 
@@ -51,20 +51,15 @@ spell_to head items rest =
 pub file_to_numbers : (head : List PartTree) (items : List InstanceTree) (rest : List Symbol) → numbers_in false (spell_to head items rest) ≡ map own_number_of items ++ numbers_in true rest
 file_to_numbers head items rest = entries_numbers head (endsec ∷ semicolon ∷ data_word ∷ semicolon ∷ spell_all spell_instance items rest) ∙ instances_numbers items rest
 
--- whether what follows symbols stands behind a semicolon
-abbrev pub behind_semicolon : Bool → List Symbol → Bool
-behind_semicolon b [] = b
-behind_semicolon b (s ∷ ss) = behind_semicolon (is_semicolon s) ss
-
 own_append : (b : Bool) (s : Symbol) (xs ys : List ℕ) → own_number b s (xs ++ ys) ≡ own_number b s xs ++ ys
 own_append true (name n) xs ys = refl
 own_append true s xs ys = refl
 own_append false s xs ys = refl
 
-pub numbers_append : (b : Bool) (ss more : List Symbol) → numbers_in b (ss ++ more) ≡ numbers_in b ss ++ numbers_in (behind_semicolon b ss) more
+pub numbers_append : (b : Bool) (ss more : List Symbol) → numbers_in b (ss ++ more) ≡ numbers_in b ss ++ numbers_in (is_behind b ss) more
 numbers_append b [] more = refl
 numbers_append b (s ∷ ss) more =
-    ap (own_number b s) (numbers_append (is_semicolon s) ss more) ∙ own_append b s (numbers_in (is_semicolon s) ss) (numbers_in (behind_semicolon (is_semicolon s) ss) more)
+    ap (own_number b s) (numbers_append (is_semicolon s) ss more) ∙ own_append b s (numbers_in (is_semicolon s) ss) (numbers_in (is_behind (is_semicolon s) ss) more)
 
 nothing_first : (xs ys : List ℕ) → xs ++ ys ≡ [] → xs ≡ []
 nothing_first [] ys e = refl
@@ -72,12 +67,12 @@ nothing_first (x ∷ xs) ys e = absurd cc
 
 -- A front of what has no numbers has none.
 pub no_numbers : (b : Bool) (ss more : List Symbol) → numbers_in b (ss ++ more) ≡ [] → numbers_in b ss ≡ []
-no_numbers b ss more e = nothing_first (numbers_in b ss) (numbers_in (behind_semicolon b ss) more) (sym (numbers_append b ss more) ∙ e)
+no_numbers b ss more e = nothing_first (numbers_in b ss) (numbers_in (is_behind b ss) more) (sym (numbers_append b ss more) ∙ e)
 
 -- One symbol more: it adds its number where it is a name behind a semicolon.
-pub numbers_last : (b : Bool) (ss : List Symbol) (s : Symbol) → numbers_in b (ss ++ s ∷ []) ≡ numbers_in b ss ++ own_number (behind_semicolon b ss) s []
+pub numbers_last : (b : Bool) (ss : List Symbol) (s : Symbol) → numbers_in b (ss ++ s ∷ []) ≡ numbers_in b ss ++ own_number (is_behind b ss) s []
 numbers_last b ss s = numbers_append b ss (s ∷ [])
 
-pub behind_last : (b : Bool) (ss : List Symbol) (s : Symbol) → behind_semicolon b (ss ++ s ∷ []) ≡ is_semicolon s
+pub behind_last : (b : Bool) (ss : List Symbol) (s : Symbol) → is_behind b (ss ++ s ∷ []) ≡ is_semicolon s
 behind_last b [] s = refl
 behind_last b (t ∷ ss) s = behind_last (is_semicolon t) ss s

@@ -1,18 +1,16 @@
 -- Reading parts, and instances.
 use Rattle.std.proofs.Common.{◌≡◌, ℕ, pred, ◌+◌, ◌<◌, ◌≤◌, List, [], ◌∷◌, ◌++◌, length, refl, sym, ap, subst, ◌∙◌, arith, length-append}
-use Rattle.std.specs.Prelude.{max}
 use Rattle.std.specs.List.{AllByRecursion}
-use Rattle.std.proofs.lemmas.List.{map_push}
 use Rattle.p21_parse.specs.declared.source.Source.{Source}
 use Rattle.p21_parse.specs.declared.source.Stop.{Stop}
 use Rattle.p21_parse.specs.declared.source.Stop.TheVariants.{Syntax}
 use Rattle.p21_parse.specs.Tree.{Trees, PartTree, InstanceTree}
 use Rattle.p21_parse.specs.Symbol.{Symbol, value, name, keyword, dashed, opening, closing, comma, semicolon, equals}
-use Rattle.p21_parse.specs.Spell.{spell_list, spell_part, spell_parts, spell_all, spell_instance}
-use Rattle.p21_parse.specs.Grammar.{AreParameters, IsPart, HasParts, IsInstance}
-use Rattle.p21_parse.specs.Nesting.{nestings, part_nesting, instance_nesting, greatest}
+use Rattle.p21_parse.specs.Spell.{spell_list, spell_part, spell_all, spell_instance}
+use Rattle.p21_parse.specs.Grammar.{IsPart, IsInstance}
+use Rattle.p21_parse.specs.Nesting.{part_nesting, instance_nesting, greatest}
 use Rattle.p21_parse.specs.Machine.{Item, fixed, parameter_list, part, more_parts, behind_name, body, instances, run}
-use Rattle.p21_parse.specs.Source.{from, Stops, Has, IsRead, IsRefused, AreRead, AreRefused, IsNotHead, HasNoKeyword, HasNoName, spell_behind_name}
+use Rattle.p21_parse.specs.Source.{from, Has, IsRead, IsRefused, AreRead, AreRefused, IsNotHead, HasNoKeyword, spell_behind_name}
 use Rattle.p21_parse.proofs.Moves.{Sticks, step, both, took, first_refused, second_refused, opened, opened_refused, stopped, instead, instead_refused, respelled}
 
 -- ---- one part

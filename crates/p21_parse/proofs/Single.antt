@@ -8,7 +8,7 @@ use Rattle.p21_parse.specs.Tree.{ExchangeTree}
 use Rattle.p21_parse.specs.Symbol.{Symbol, name, opening, semicolon, symbols}
 use Rattle.p21_parse.specs.Spell.{spell_file}
 use Rattle.p21_parse.specs.Grammar.{IsFile}
-use Rattle.p21_parse.specs.Numbers.{numbers_in}
+use Rattle.p21_parse.specs.Numbers.{numbers_in, is_behind}
 use Rattle.p21_parse.specs.Machine.{endsec, end_iso, done, run, file_items}
 use Rattle.p21_parse.specs.Begins.{IsSymbol, Begins}
 use Rattle.p21_parse.specs.Places.{Refusal, syntax, too_deep, too_many, duplicate, place_of}
@@ -18,7 +18,7 @@ use Rattle.p21_parse.proofs.Fronts.{shallow_open, Longest, broken, one_longest}
 use Rattle.p21_parse.proofs.Complete.{file_runs}
 use Rattle.p21_parse.proofs.Languages.{file_shallow}
 use Rattle.p21_parse.proofs.Named.{symbols_real, shallow_front}
-use Rattle.p21_parse.proofs.Owned.{numbers_append, behind_semicolon, file_to_numbers}
+use Rattle.p21_parse.proofs.Owned.{numbers_append, file_to_numbers}
 
 apart_front : (x : ℕ) (xs ys : List ℕ) → AllByRecursion (λ y. nat_eq x y ≡ false) (xs ++ ys) → AllByRecursion (λ y. nat_eq x y ≡ false) xs
 apart_front x [] ys h = tt
@@ -32,13 +32,13 @@ distinct_front (x ∷ xs) ys h = (apart_front x xs ys h.0, distinct_front xs ys 
 -- A front keeps the limits.
 within_front : (a b : List Symbol) → IsWithin (a ++ b) → IsWithin a
 within_front a b w =
-    let numbers : file_numbers (a ++ b) ≡ file_numbers a ++ numbers_in (behind_semicolon false a) b = numbers_append false a b in
-    let long : length (file_numbers (a ++ b)) ≡ length (file_numbers a) + length (numbers_in (behind_semicolon false a) b) = ap length numbers ∙ length-append (file_numbers a) (numbers_in (behind_semicolon false a) b) in
+    let numbers : file_numbers (a ++ b) ≡ file_numbers a ++ numbers_in (is_behind false a) b = numbers_append false a b in
+    let long : length (file_numbers (a ++ b)) ≡ length (file_numbers a) + length (numbers_in (is_behind false a) b) = ap length numbers ∙ length-append (file_numbers a) (numbers_in (is_behind false a) b) in
     let few = w.few in
     record {
       shallow = shallow_front false 0 a b w.shallow;
       few = omega arith;
-      distinct = distinct_front (file_numbers a) (numbers_in (behind_semicolon false a) b) (subst (IsDistinct nat_eq) numbers w.distinct);
+      distinct = distinct_front (file_numbers a) (numbers_in (is_behind false a) b) (subst (IsDistinct nat_eq) numbers w.distinct);
     }
 
 module _ (bytes : List ℕ) (tokens : List Token) where

@@ -8,7 +8,7 @@ use Rattle.p21_parse.specs.Tree.{InstanceTree}
 use Rattle.p21_parse.specs.Symbol.{Symbol, name, opening, symbols}
 use Rattle.p21_parse.specs.Spell.{spell_all, spell_instance}
 use Rattle.p21_parse.specs.Grammar.{AreInstances}
-use Rattle.p21_parse.specs.Numbers.{numbers_in}
+use Rattle.p21_parse.specs.Numbers.{numbers_in, is_behind}
 use Rattle.p21_parse.specs.Machine.{endsec, instances}
 use Rattle.p21_parse.specs.Begins.{IsSymbol, Begins}
 use Rattle.p21_parse.specs.Places.{Refusal, syntax, too_deep, too_many, duplicate, place_of}
@@ -18,7 +18,7 @@ use Rattle.p21_parse.proofs.Complete.{instances_run}
 use Rattle.p21_parse.proofs.Leaves.{Shallow, read_shallow}
 use Rattle.p21_parse.proofs.Languages.{list_calm}
 use Rattle.p21_parse.proofs.Named.{symbols_real, shallow_front}
-use Rattle.p21_parse.proofs.Owned.{numbers_append, behind_semicolon, instances_numbers}
+use Rattle.p21_parse.proofs.Owned.{numbers_append, instances_numbers}
 use Rattle.p21_parse.proofs.Appends.{longer_instances}
 use Rattle.p21_parse.proofs.Unique.{same_instance}
 use Rattle.p21_parse.proofs.Fronts.{shallow_open, Longest, broken, one_longest}
@@ -26,7 +26,7 @@ use Rattle.p21_parse.proofs.Fronts.{shallow_open, Longest, broken, one_longest}
 -- A front keeps the limits.
 within_front : (most : ℕ) (a b : List Symbol) → IsWithinList most (a ++ b) → IsWithinList most a
 within_front most a b w =
-    let long : length (list_numbers (a ++ b)) ≡ length (list_numbers a) + length (numbers_in (behind_semicolon true a) b) = ap length (numbers_append true a b) ∙ length-append (list_numbers a) (numbers_in (behind_semicolon true a) b) in
+    let long : length (list_numbers (a ++ b)) ≡ length (list_numbers a) + length (numbers_in (is_behind true a) b) = ap length (numbers_append true a b) ∙ length-append (list_numbers a) (numbers_in (is_behind true a) b) in
     let few = w.few in
     record { shallow = shallow_front false 0 a b w.shallow; few = omega arith }
 

@@ -1,5 +1,5 @@
 -- What is told of a text: its exchange, or its refusal.
-use Rattle.std.proofs.Common.{◌≡◌, ℕ, zero, suc, ◌+◌, ◌-◌, ◌<◌, ◌≤◌, nat_eq, List, [], ◌∷◌, ◌++◌, length, map, take, drop, Option, Some, None, refl, sym, ap, subst, ◌∙◌, arith, inl, inr}
+use Rattle.std.proofs.Common.{◌≡◌, ℕ, zero, suc, ◌+◌, ◌-◌, ◌<◌, ◌≤◌, nat_eq, List, [], ◌∷◌, ◌++◌, length, map, take, drop, Some, None, refl, sym, ap, subst, ◌∙◌, arith, inl, inr}
 use Rattle.std.specs.Prelude.{◌⊎◌, slice_get}
 use Rattle.std.specs.List.{IsDistinct, AllByRecursion}
 use Rattle.std.proofs.lemmas.List.{take_all, length-map, append-nil}
@@ -13,7 +13,7 @@ use Rattle.p21_parse.specs.declared.error.ReadErr.TheVariants as errors
 use Rattle.p21_parse.specs.declared.source.Source.{Source}
 use Rattle.p21_parse.specs.declared.source.Stop.TheVariants.{Syntax, TooDeep}
 use Rattle.p21_parse.specs.Tree.{ExchangeTree}
-use Rattle.p21_parse.specs.Symbol.{Symbol, name, semicolon, symbol_of, symbols}
+use Rattle.p21_parse.specs.Symbol.{Symbol, name, semicolon, symbols}
 use Rattle.p21_parse.specs.Spell.{spell_file}
 use Rattle.p21_parse.specs.Allowed.{own_number_of, IsAllowed}
 use Rattle.p21_parse.specs.Places.{Refusal, syntax, too_deep, too_many, duplicate, start_of, place_of}
@@ -21,7 +21,7 @@ use Rattle.p21_parse.specs.Refused.{file_numbers, RefusedAt}
 use Rattle.p21_parse.specs.Machine.{endsec, end_iso, Outcome, done, stuck, deep, run, file_items}
 use Rattle.p21_parse.specs.Source.{IsSource, from, FileRead, FileStops}
 use Rattle.p21_parse.specs.Names.{before, AreFine, FaultAt}
-use Rattle.p21_parse.specs.Text.{IsText, HasRefusal, IsRefusedText, IsExchangeOf, IsRefusedSource, left_in, NamesRefuse, from_lex}
+use Rattle.p21_parse.specs.Text.{IsText, HasRefusal, IsRefusedText, IsExchangeOf, IsRefusedSource, left_in, from_lex}
 use Rattle.p21_parse.proofs.Leaves.{left_of}
 use Rattle.p21_parse.proofs.Refusals.{IsNumbered, file_syntax, file_goes_on, file_too_deep, file_too_many, file_duplicate}
 use Rattle.p21_parse.proofs.Owned.{file_to_numbers}

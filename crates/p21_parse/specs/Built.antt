@@ -5,8 +5,7 @@ use Rattle.p21_lex.specs.declared.token.TokenKind.TheVariants as kinds
 use Rattle.p21_parse.specs.declared.limits.TheConstants.{MAX_INSTANCES, MAX_NESTING}
 use Rattle.p21_parse.specs.declared.error.BuildErr.{BuildErr}
 use Rattle.p21_parse.specs.declared.error.BuildErr.TheVariants.{Invalid, NoMemory}
-use Rattle.p21_parse.specs.Tree.{Tree, one, list, Trees, none, first, PartTree, InstanceTree}
-use Rattle.p21_parse.specs.Symbol.{Symbol}
+use Rattle.p21_parse.specs.Tree.{Tree, one, list, none, first, PartTree, InstanceTree}
 use Rattle.p21_parse.specs.Spell.{spell, spell_part}
 use Rattle.p21_parse.specs.Grammar.{IsParameter, IsPart, IsInstance}
 use Rattle.p21_parse.specs.Nesting.{nesting, part_nesting, instance_nesting}

@@ -13,6 +13,7 @@ pub mod Refused
 pub mod Allowed
 pub mod Source
 pub mod Names
+pub mod Front
 pub mod Text
 pub mod Built
 pub mod Following

@@ -1,17 +1,28 @@
 -- The names of instances in the front of a text, and their first fault.
-use Rattle.std.specs.Prelude.{◌≡◌, ℕ, ◌+◌, nat_eq, ◌≤◌, ◌<◌, List, [], ◌∷◌, ◌++◌, length, take, Option, Some, None}
+use Rattle.std.specs.Prelude.{◌≡◌, ℕ, ◌+◌, false, nat_eq, ◌≤◌, ◌<◌, List, [], ◌∷◌, ◌++◌, length, take, Option, Some, None}
 use Rattle.std.specs.List.{IsDistinct}
 use Rattle.p21_parse.specs.declared.limits.TheConstants.{MAX_INSTANCES}
 use Rattle.p21_parse.specs.declared.source.Source.{Source}
+use Rattle.p21_lex.specs.declared.token.Token.{Token}
+use Rattle.p21_parse.specs.declared.names.Before.{Before}
 use Rattle.p21_parse.specs.declared.names.NameFault.{NameFault}
 use Rattle.p21_parse.specs.declared.names.NameFault.TheVariants.{TooMany, Duplicate}
 use Rattle.p21_parse.specs.Symbol.{Symbol, name}
+use Rattle.p21_parse.specs.Numbers.{is_behind}
 use Rattle.p21_parse.specs.Refused.{file_numbers}
-use Rattle.p21_parse.specs.Source.{from, Has}
+use Rattle.p21_parse.specs.Source.{IsSource, from, Has}
 
 -- the symbols before a token
 abbrev pub before : Source → ℕ → List Symbol
 before s at = take at (from s 0)
+
+-- The tokens of t are the last ones of s, behind these, and before them stand the instances with these numbers, behind a semicolon or not.
+pub record IsBehind (s t : Source) (ts : List Token) (b : Before) : Type 0 where
+  pub real : IsSource s
+  pub bytes : s.bytes.now ≡ t.bytes.now
+  pub tokens : s.tokens.now ≡ ts ++ t.tokens.now
+  pub numbers : file_numbers (before s (length ts)) ≡ b.numbers.now
+  pub marked : is_behind false (before s (length ts)) ≡ b.is_marked
 
 -- the own name of an instance stands there
 pub record IsOwn (s : Source) (at : ℕ) (number : ℕ) : Type 0 where
@@ -39,6 +50,12 @@ abbrev pub NamesAre : Source → ℕ → Option NameFault → Type 0
 NamesAre s end None = AreFine (before s end)
 NamesAre s end (Some (TooMany at)) = (number : ℕ) × FaultAt s end at number (λ ns. MAX_INSTANCES < length ns)
 NamesAre s end (Some (Duplicate number)) = (at : ℕ) × FaultAt s end at number (λ ns. (length ns ≤ MAX_INSTANCES) × (IsDistinct nat_eq ns → ⊥))
+
+-- the same fault, so many tokens further on
+abbrev pub fault_behind : ℕ → Option NameFault → Option NameFault
+fault_behind by None = None
+fault_behind by (Some (TooMany at)) = Some (TooMany (by + at))
+fault_behind by (Some (Duplicate number)) = Some (Duplicate number)
 
 -- The first numbers, so many, are distinct, and with one more they are not; or all are distinct.
 abbrev pub IsFirstRepeat : List ℕ → Option ℕ → Type 0

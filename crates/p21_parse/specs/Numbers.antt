@@ -15,3 +15,8 @@ is_semicolon _ = false
 abbrev pub numbers_in : Bool → List Symbol → List ℕ
 numbers_in behind [] = []
 numbers_in behind (s ∷ ss) = own_number behind s (numbers_in (is_semicolon s) ss)
+
+-- whether what follows symbols stands behind a semicolon
+abbrev pub is_behind : Bool → List Symbol → Bool
+is_behind behind [] = behind
+is_behind behind (s ∷ ss) = is_behind (is_semicolon s) ss

@@ -11,10 +11,10 @@ use Rattle.p21_parse.specs.declared.source.Stop.{Stop}
 use Rattle.p21_parse.specs.declared.source.Stop.TheVariants.{Syntax, TooDeep, NoMemory}
 use Rattle.p21_parse.specs.Tree.{Tree, one, reference, Trees, none, first, PartTree, InstanceTree, ExchangeTree}
 use Rattle.p21_parse.specs.Symbol.{Symbol, value, name, keyword, opening, closing, semicolon, equals, symbol, symbol_of, symbols}
-use Rattle.p21_parse.specs.Spell.{spell_parts, spell_all, spell_entry, spell_file}
-use Rattle.p21_parse.specs.Grammar.{IsText, AreTexts, IsEntry, IsExchange}
-use Rattle.p21_parse.specs.Nesting.{greatest, part_nesting, exchange_nesting}
-use Rattle.p21_parse.specs.Machine.{Item, fixed, schema, more_schemas, instances, entries, endsec, iso, header, data_word, end_iso, named, file_items, Outcome, done, stuck, deep, same, run}
+use Rattle.p21_parse.specs.Spell.{spell_parts, spell_all, spell_entry, spell_instance, spell_file}
+use Rattle.p21_parse.specs.Grammar.{IsText, AreTexts, IsInstance, IsEntry, IsExchange}
+use Rattle.p21_parse.specs.Nesting.{greatest, part_nesting, instance_nesting, exchange_nesting}
+use Rattle.p21_parse.specs.Machine.{Item, fixed, schema, more_schemas, instances, entries, endsec, iso, header, data_word, end_iso, named, end_items, file_items, Outcome, done, stuck, deep, same, run}
 
 -- the tokens lie in the text
 abbrev pub IsSource : Source → Type 0
@@ -186,6 +186,13 @@ phrase w = fixed w ∷ fixed semicolon ∷ []
 abbrev pub start_items : List Item
 start_items = phrase iso ++ (phrase header ++ (head_items ++ phrase data_word))
 
+-- what stands before the instances, and behind them
+abbrev pub spell_start : List PartTree → List Symbol → List Symbol
+spell_start head rest = iso ∷ semicolon ∷ header ∷ semicolon ∷ spell_all spell_entry head (endsec ∷ semicolon ∷ data_word ∷ semicolon ∷ rest)
+
+abbrev pub spell_last : List Symbol → List Symbol
+spell_last rest = endsec ∷ semicolon ∷ end_iso ∷ semicolon ∷ rest
+
 -- the items behind the instances, with the word that ends them
 abbrev pub last_items : List Item
 last_items = phrase endsec ++ phrase end_iso
@@ -196,16 +203,16 @@ FileStops s (Syntax at) outcome = (at ≤ length s.tokens.now) × ((outcome ≡ 
 FileStops s (TooDeep at) outcome = Stops s (TooDeep at) outcome
 FileStops s NoMemory outcome = Unit {0}
 
+-- from a token on the instances of a file were read, and its end
+pub record RestRead (s : Source) (at : ℕ) (items : List InstanceTree) : Type 0 where
+  pub grammar : AllByRecursion IsInstance items
+  pub shallow : greatest instance_nesting items ≤ MAX_NESTING
+  pub spells : from s at ≡ spell_all spell_instance items (spell_last [])
+  pub goes : run MAX_NESTING 0 (instances ∷ end_items) (from s at) ≡ done 0 []
+
 -- the file was read whole
 pub record FileRead (s : Source) (x : ExchangeTree) : Type 0 where
   pub grammar : IsExchange x
   pub shallow : exchange_nesting x ≤ MAX_NESTING
   pub spells : from s 0 ≡ spell_file x
   pub goes : run MAX_NESTING 0 file_items (from s 0) ≡ done 0 []
-
--- what stands before the instances, and behind them
-abbrev pub spell_start : List PartTree → List Symbol → List Symbol
-spell_start head rest = iso ∷ semicolon ∷ header ∷ semicolon ∷ spell_all spell_entry head (endsec ∷ semicolon ∷ data_word ∷ semicolon ∷ rest)
-
-abbrev pub spell_last : List Symbol → List Symbol
-spell_last rest = endsec ∷ semicolon ∷ end_iso ∷ semicolon ∷ rest

@@ -1,5 +1,5 @@
 -- Which instances and exchanges can be written: each of their symbols is that of a token.
-use Rattle.std.specs.Prelude.{List, []}
+use Rattle.std.specs.Prelude.{[]}
 use Rattle.std.specs.List.{AllByRecursion}
 use Rattle.p21_parse.specs.Tree.{InstanceTree, ExchangeTree}
 use Rattle.p21_parse.specs.Spell.{spell_instance, spell_file}

@@ -5,11 +5,11 @@ ghost use Rattle.p21_parse.specs.Symbol.{semicolon};
 ghost use Rattle.p21_parse.specs.Spell.{spell_entry, spell_all};
 ghost use Rattle.p21_parse.specs.Grammar.{IsHead};
 ghost use Rattle.p21_parse.specs.Nesting.{part_nesting, greatest};
-ghost use Rattle.p21_parse.specs.View.{part_of, exchange_of};
-ghost use Rattle.p21_parse.specs.Machine.{iso, header, data_word, endsec, end_iso, file_items, run};
-ghost use Rattle.p21_parse.specs.Source.{IsSource, from, IsRead, IsRefused, start_items, last_items, spell_start, spell_last, FileRead, FileStops};
+ghost use Rattle.p21_parse.specs.View.{part_of, instance_of, exchange_of};
+ghost use Rattle.p21_parse.specs.Machine.{iso, header, data_word, endsec, end_iso, instances, end_items, file_items, run};
+ghost use Rattle.p21_parse.specs.Source.{IsSource, from, IsRead, IsRefused, start_items, last_items, spell_start, spell_last, RestRead, FileRead, FileStops};
 
-use crate::exchange::{Exchange, PartList};
+use crate::exchange::{Exchange, InstanceList, PartList};
 use crate::limits::MAX_NESTING;
 use crate::source::{Source, Stop};
 use std::alloc::Global;
@@ -41,6 +41,21 @@ impl Source<'_> {
         Ok(next)
     }
 
+    /// The instances from an index on, and behind them the ends of the data section and of the file, up to the last token.
+    pub fn rest(&self, alloc: Global, at: usize) -> Result<InstanceList, Stop>
+        requires source { IsSource self.now }
+        requires at { at ≤ length self.now.tokens.now }
+        ensures read { IfOk result (λ items. RestRead self.now at (map instance_of items)) }
+        ensures refused { IfErr result (λ e. FileStops self.now e (run MAX_NESTING 0 (instances ∷ end_items) (from self.now at))) }
+    {
+        let (items, rest) = self.instances(alloc, at)?;
+        let end = self.last(rest)?;
+        if end < self.tokens.len() {
+            return Err(Stop::Syntax(end));
+        }
+        Ok(items)
+    }
+
     /// The exchange that all tokens spell.
     pub fn file(&self, alloc: Global) -> Result<Exchange, Stop>
         requires { IsSource self.now }
@@ -48,11 +63,7 @@ impl Source<'_> {
         ensures refused { IfErr result (λ e. FileStops self.now e (run MAX_NESTING 0 file_items (from self.now 0))) }
     {
         let (head, at) = self.start(alloc)?;
-        let (items, rest) = self.instances(alloc, at)?;
-        let end = self.last(rest)?;
-        if end < self.tokens.len() {
-            return Err(Stop::Syntax(end));
-        }
+        let items = self.rest(alloc, at)?;
         Ok(Exchange { head, items })
     }
 }

@@ -3,6 +3,7 @@
 //! | module | what is in it | calls |
 //! |---|---|---|
 //! | reading | a whole text is read, and the laws of texts | `read`, `text_laws` |
+//! | behind | the rest of a text whose front was read before | `read_behind` |
 //! | following | instances alone, from a token on | `instances` |
 //! | built | an exchange is made of instances, under the standard header | `Exchange::of` |
 //! | laws | what holds of the grammar whatever reads it | `grammar_laws`, `instance_laws` |
@@ -16,6 +17,7 @@
 //! | fitting, spelling | which instances and which symbols can be written | none |
 #![tactic(auto)]
 
+mod behind;
 mod built;
 mod error;
 mod exchange;
@@ -34,6 +36,7 @@ mod repeat;
 mod source;
 mod spelling;
 
+pub use behind::read_behind;
 pub use error::{BuildErr, ReadErr};
 pub use exchange::{Exchange, Instance, InstanceList, Part, PartList};
 pub use following::instances;

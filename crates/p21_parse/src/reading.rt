@@ -1,6 +1,6 @@
 //! Reading a text.
 
-ghost use Rattle.std.specs.Prelude.{◌≡◌, ◌≤◌, ◌-◌, length, drop, IfOk, IfErr, ℕ, List, ◌⊎◌};
+ghost use Rattle.std.specs.Prelude.{◌≡◌, ◌≤◌, ◌+◌, ◌-◌, length, drop, IfOk, IfErr, ℕ, List, ◌⊎◌};
 ghost use Rattle.std.specs.List.{AllByRecursion};
 ghost use Rattle.p21_lex.specs.Reading.{Reads, IsToken};
 ghost use Rattle.p21_parse.specs.declared.error.ReadErr.{ReadErr};
@@ -10,13 +10,16 @@ ghost use Rattle.p21_parse.specs.Spelled.{IsSpelled};
 ghost use Rattle.p21_parse.specs.View.{exchange_of};
 ghost use Rattle.p21_parse.specs.Places.{start_of};
 ghost use Rattle.p21_parse.specs.Source.{IsSource};
-ghost use Rattle.p21_parse.specs.Names.{before, AreFine};
+ghost use Rattle.p21_lex.specs.declared.token.Token.{Token};
+ghost use Rattle.p21_parse.specs.declared.source.Source.{Source};
+ghost use Rattle.p21_parse.specs.Names.{before, AreFine, IsBehind};
 ghost use Rattle.p21_parse.specs.Text.{IsText, IsRefusedText, IsExchangeOf, IsRefusedSource, NamesRefuse};
 
 use crate::error::ReadErr;
 use crate::exchange::Exchange;
 use crate::laws::grammar_laws;
-use crate::names::NameFault;
+use crate::limits::MAX_INSTANCES;
+use crate::names::{Before, NameFault};
 use crate::source::{Source, Stop};
 use p21_lex::{MAX_TEXT, Token, reading_laws, tokens};
 use std::alloc::Global;
@@ -44,15 +47,16 @@ impl Source<'_> {
         }
     }
 
-    /// Looks at the names of instances among so many tokens.
-    fn check_names(&self, alloc: Global, end: usize) -> Result<(), ReadErr>
+    /// Looks at the names of instances up to a token.
+    pub fn check_names(&self, alloc: Global, earlier: &Before, end: usize) -> Result<(), ReadErr>
         requires source { IsSource self.now }
         requires short { length self.now.bytes.now ≤ MAX_TEXT }
+        requires few { length earlier.now.numbers.now ≤ MAX_INSTANCES }
         requires end { end ≤ length self.now.tokens.now }
-        ensures fine { IfOk result (λ _. AreFine (before self.now end)) }
-        ensures refused { IfErr result (NamesRefuse self.now end) }
+        ensures fine { IfOk result (λ _. (s : Source) (ts : List Token) → IsBehind s self.now ts earlier.now → AreFine (before s (length ts + end))) }
+        ensures refused { IfErr result (λ e. (s : Source) (ts : List Token) → IsBehind s self.now ts earlier.now → NamesRefuse s (length ts + end) e) }
     {
-        match self.name_fault(alloc, end)? {
+        match self.name_fault(alloc, earlier, end)? {
             None => Ok(()),
             Some(NameFault::TooMany(at)) => Err(ReadErr::TooMany(self.place(at))),
             Some(NameFault::Duplicate(number)) => Err(ReadErr::Duplicate(number)),
@@ -66,17 +70,18 @@ impl Source<'_> {
         ensures read { IfOk result (λ x. IsExchangeOf self.now (exchange_of x)) }
         ensures refused { IfErr result (IsRefusedSource self.now) }
     {
+        let nothing = Before::nothing();
         match self.file(alloc) {
             Ok(exchange) => {
-                self.check_names(alloc, self.tokens.len())?;
+                self.check_names(alloc, &nothing, self.tokens.len())?;
                 Ok(exchange)
             }
             Err(Stop::Syntax(at)) => {
-                self.check_names(alloc, at)?;
+                self.check_names(alloc, &nothing, at)?;
                 Err(ReadErr::Syntax(self.place(at)))
             }
             Err(Stop::TooDeep(at)) => {
-                self.check_names(alloc, at)?;
+                self.check_names(alloc, &nothing, at)?;
                 Err(ReadErr::TooDeep(self.place(at)))
             }
             Err(Stop::NoMemory) => Err(ReadErr::NoMemory),

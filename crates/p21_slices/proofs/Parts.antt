@@ -16,9 +16,10 @@ use Rattle.p21_parse.specs.Text.{IsText}
 use Rattle.p21_parse.proofs.Appends.{longer_instances}
 use Rattle.p21_join.specs.Join.{EndsInSemicolon, LastIsSemicolon, moved}
 use Rattle.p21_join.proofs.Joins.{joined}
-use Rattle.p21_slices.specs.Slices.{IsFront, IsSlice, IsWhole}
-use Rattle.p21_slices.proofs.Symbols.{symbols_join}
-use Rattle.p21_slices.proofs.Files.{longer_start}
+use Rattle.p21_parse.specs.Front.{IsFront}
+use Rattle.p21_parse.proofs.Joined.{symbols_join}
+use Rattle.p21_parse.proofs.Grown.{longer_start}
+use Rattle.p21_slices.specs.Slices.{IsWhole}
 
 -- ---- a slice
 
@@ -27,19 +28,17 @@ pub is_whole : (slice : List ℕ) (ts : List Token) (items : List InstanceTree) 
 is_whole slice ts items next most exact inside ends last found_these all =
     let none : drop next ts ≡ [] = ap (λ (n : ℕ). drop n ts) all ∙ drop-length ts in
     record {
-      is = record {
-        tokens = ts;
-        reads = found slice ts exact;
-        inside = inside;
-        spells = found_these.spells ∙ ap (λ (us : List Token). spell_all spell_instance items (symbols slice us)) none;
-        grammar = found_these.allowed.grammar;
-        shallow = found_these.allowed.shallow;
-      };
+      tokens = ts;
+      reads = found slice ts exact;
+      inside = inside;
+      spells = found_these.spells ∙ ap (λ (us : List Token). spell_all spell_instance items (symbols slice us)) none;
+      grammar = found_these.allowed.grammar;
+      shallow = found_these.allowed.shallow;
       last = last;
       ends = ends;
     }
 
--- ---- the front and the end
+-- ---- the front
 
 halves : {A : Type 0} (xs ys s t : List A) → length xs ≡ length ys → xs ++ s ≡ ys ++ t → (xs ≡ ys) × (s ≡ t)
 halves [] [] s t same e = (refl, e)
@@ -87,8 +86,3 @@ begins front end text ts us x first inside ends so last four is whole =
       grammar = whole.allowed.grammar;
       shallow = whole.allowed.shallow;
     }
-
--- ---- the end
-
-pub ending : (end : List ℕ) (ts us : List Token) → tokens_of end ≡ Ok ts → AllByRecursion (IsToken end) ts → us ≡ ts → symbols end us ≡ spell_last [] → IsSlice end [] spell_last
-ending end ts us exact inside same spelled = record { tokens = ts; reads = found end ts exact; inside = inside; spells = ap (symbols end) (sym same) ∙ spelled; grammar = tt; shallow = omega arith }

@@ -1,14 +1,12 @@
-//! The front and the end of a file, and the slices between them.
+//! The front of a file, and the slices behind it.
 
-ghost use Rattle.std.specs.Prelude.{◌≡◌, ◌≤◌, ◌<◌, ◌+◌, ◌++◌, [], All, Ok, length, map, take, IsTrue, IfOk, IfSome};
+ghost use Rattle.std.specs.Prelude.{◌≡◌, ◌≤◌, ◌<◌, ◌+◌, ◌++◌, All, Ok, length, map, take, IfOk, IfSome};
 ghost use Rattle.std.specs.List.{AllByRecursion};
 ghost use Rattle.p21_lex.specs.Reading.{IsToken};
 ghost use Rattle.p21_lex.specs.Tokens.{tokens_of};
-ghost use Rattle.p21_lex.specs.declared.token.TokenKind.TheVariants.{Word};
-ghost use Rattle.p21_parse.specs.Source.{spell_last};
-ghost use Rattle.p21_parse.specs.Symbol.{text_of, symbols};
 ghost use Rattle.p21_parse.specs.View.{instance_of, exchange_of};
-ghost use Rattle.p21_slices.specs.Slices.{IsFront, IsSlice, IsWhole};
+ghost use Rattle.p21_parse.specs.Front.{IsFront};
+ghost use Rattle.p21_slices.specs.Slices.{IsWhole};
 
 use nc_base::NoMemory;
 use p21_join::{ends_in_semicolon, last_is_semicolon};
@@ -172,7 +170,8 @@ fn front_len(alloc: Global, bytes: &[u8]) -> Result<Option<usize>, NoMemory>
 /// The exchange of the front and the end of a file, if they are so.
 fn begin(alloc: Global, front: &[u8], end: &[u8]) -> Result<Option<Exchange>, NoMemory>
     requires { length front.now + length end.now ≤ MAX_TEXT }
-    ensures { IfOk result (λ r. IfSome r (λ x. IsFront front.now (exchange_of x))) }
+    ensures front { IfOk result (λ r. IfSome r (λ x. IsFront front.now (exchange_of x))) }
+    ensures few { IfOk result (λ r. IfSome r (λ x. length (exchange_of x).items ≤ MAX_INSTANCES)) }
 {
     let Some(first) = listed(alloc, front)? else {
         return Ok(None);
@@ -199,6 +198,7 @@ fn begin(alloc: Global, front: &[u8], end: &[u8]) -> Result<Option<Exchange>, No
 pub fn front_of(alloc: Global, bytes: &[u8]) -> Result<Option<Front>, NoMemory>
     requires { length bytes.now ≤ MAX_FILE }
     ensures front { IfOk result (λ r. IfSome r (λ front. IsFront (take front.len bytes.now) (exchange_of front.exchange))) }
+    ensures few { IfOk result (λ r. IfSome r (λ front. length (exchange_of front.exchange).items ≤ MAX_INSTANCES)) }
     ensures within { IfOk result (λ r. IfSome r (λ front. front.len ≤ length bytes.now)) }
 {
     let Some(len) = front_len(alloc, bytes)? else {
@@ -207,38 +207,5 @@ pub fn front_of(alloc: Global, bytes: &[u8]) -> Result<Option<Front>, NoMemory>
     match begin(alloc, &bytes[..len], END)? {
         Some(exchange) => Ok(Some(Front { exchange, len })),
         None => Ok(None),
-    }
-}
-
-/// Whether a token is this word.
-fn is_word(bytes: &[u8], token: Token, word: &[u8]) -> bool
-    requires { IsToken bytes.now token }
-    ensures { IsTrue result → (token.kind ≡ Word) × (text_of bytes.now token ≡ word.now) }
-{
-    token.kind == TokenKind::Word && &bytes[token.start as usize..token.end as usize] == word
-}
-
-/// Whether these tokens end a file.
-fn end_it(bytes: &[u8], found: &[Token]) -> bool
-    requires { AllByRecursion (IsToken bytes.now) found.now }
-    ensures { IsTrue result → symbols bytes.now found.now ≡ spell_last [] }
-{
-    let [section, first, file, second] = found else {
-        return false;
-    };
-    is_word(bytes, *section, b"ENDSEC")
-        && first.kind == TokenKind::Semicolon
-        && is_word(bytes, *file, b"END-ISO-10303-21")
-        && second.kind == TokenKind::Semicolon
-}
-
-/// Whether a text is what ends a file, behind its instances.
-pub fn is_end(alloc: Global, bytes: &[u8]) -> Result<bool, NoMemory>
-    requires { length bytes.now ≤ MAX_TEXT }
-    ensures { IfOk result (λ yes. IsTrue yes → IsSlice bytes.now [] spell_last) }
-{
-    match listed(alloc, bytes)? {
-        Some(found) => Ok(end_it(bytes, found.as_slice())),
-        None => Ok(false),
     }
 }

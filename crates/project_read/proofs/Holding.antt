@@ -17,19 +17,6 @@ use Rattle.project_read.specs.Holds.{HasStore}
 use Rattle.project_read.specs.Reads.{Reads, ReadsStore, HasNoPlan, AreSteps}
 use Rattle.project_read.specs.declared.project.TheConstants.{MAX_PROJECT_BYTES}
 
-pub store_not_read : (bytes : List ℕ) (e : ReadErr) → length bytes ≤ MAX_PROJECT_BYTES → IsRefusedText bytes e → ReadsStore bytes (Err (from_read e))
-store_not_read bytes (reads.Lex lexes.NoMemory) short at = tt
-store_not_read bytes (reads.Lex (lexes.BadByte place)) short at = (short, at)
-store_not_read bytes (reads.Lex (lexes.BadName place)) short at = (short, at)
-store_not_read bytes (reads.Lex (lexes.OpenString place)) short at = (short, at)
-store_not_read bytes (reads.Lex (lexes.OpenComment place)) short at = (short, at)
-store_not_read bytes (reads.Lex (lexes.NumberTooLong place)) short at = (short, at)
-store_not_read bytes (reads.Syntax place) short at = (short, at)
-store_not_read bytes (reads.TooDeep place) short at = (short, at)
-store_not_read bytes (reads.TooMany place) short at = (short, at)
-store_not_read bytes (reads.Duplicate number) short at = (short, at)
-store_not_read bytes reads.NoMemory short at = tt
-
 pub no_store : (bytes : List ℕ) (e : ProjectErr) → ReadsStore bytes (Err e) → Reads bytes (Err e)
 no_store bytes (Refused reason) said = said
 no_store bytes NoMemory said = tt

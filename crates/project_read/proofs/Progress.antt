@@ -1,22 +1,33 @@
--- How far a file is read: its front, and the entities of the instances there.
-use Rattle.std.proofs.Common.{◌≡◌, ℕ, zero, suc, ◌+◌, ◌≤◌, nat_eq, List, [], ◌∷◌, ◌++◌, length, map, take, drop, Result, Ok, Err, refl, sym, ap, subst, ◌∙◌, arith}
+-- How far a file is read: its front, and what is kept of the instances there.
+use Rattle.std.proofs.Common.{◌≡◌, ℕ, zero, suc, ◌+◌, ◌≤◌, nat_eq, List, [], ◌∷◌, ◌++◌, length, map, take, drop, Option, Some, None, Result, Ok, Err, refl, sym, ap, subst, ◌∙◌, arith}
 use Rattle.std.specs.List.{IsDistinct}
-use Rattle.std.proofs.lemmas.List.{take-append-drop, map-append, append-nil, length-map}
+use Rattle.std.specs.Global.{Vec}
+use Rattle.std.proofs.lemmas.List.{map-append, length-append}
+use Rattle.p21_lex.specs.declared.error.LexErr.TheVariants as lexes
+use Rattle.p21_parse.specs.declared.error.ReadErr.{ReadErr}
+use Rattle.p21_parse.specs.declared.error.ReadErr.TheVariants as reads
 use Rattle.p21_parse.specs.declared.limits.TheConstants.{MAX_INSTANCES}
 use Rattle.p21_parse.specs.Tree.{InstanceTree, ExchangeTree}
-use Rattle.p21_parse.specs.Source.{spell_last}
 use Rattle.p21_parse.specs.Allowed.{own_number_of}
-use Rattle.p21_parse.specs.Text.{IsText}
+use Rattle.p21_parse.specs.Front.{IsFront, with_items}
+use Rattle.p21_parse.specs.Text.{IsText, IsRefusedText}
 use Rattle.entity_types.specs.declared.entity.Entity.{Entity}
 use Rattle.entity_read.specs.declared.error.TypeErr.{TypeErr}
 use Rattle.entity_read.specs.Typed.{EntityTree, entity_of, typed_of}
 use Rattle.project_store.specs.Entities.{numbers_of}
+use Rattle.project_read.specs.declared.gathered.Gathered.{Gathered}
+use Rattle.project_read.specs.declared.project.TheConstants.{MAX_PROJECT_BYTES}
+use Rattle.project_read.specs.declared.reason.ProjectReason.{ProjectReason}
+use Rattle.project_read.specs.declared.reason.ProjectReason.TheVariants as reasons
+use Rattle.project_read.specs.declared.reason.ProjectErr.{ProjectErr}
+use Rattle.project_read.specs.declared.reason.ProjectErr.TheVariants.{Refused, NoMemory}
+use Rattle.project_read.specs.Errors.{from_read}
 use Rattle.project_read.specs.Typing.{with_typed, all_typed}
 use Rattle.project_read.specs.Holds.{HasEntities}
-use Rattle.project_read.proofs.Typing.{typed_numbers}
-use Rattle.p21_slices.specs.Slices.{IsFront, IsSlice, IsWhole, with_items}
-use Rattle.p21_slices.proofs.Files.{more, whole}
-use Rattle.project_read.specs.declared.project.TheConstants.{MAX_PROJECT_BYTES}
+use Rattle.project_read.specs.Reads.{AllTyped, ReadsEntities, ReadsStore}
+use Rattle.project_read.specs.Gathered.{IsKept, IsGathered, IsReadTo}
+use Rattle.p21_slices.specs.Slices.{IsWhole}
+use Rattle.p21_slices.proofs.Files.{more}
 
 -- ---- entities
 
@@ -33,8 +44,58 @@ trees_join (i ∷ is) ys es fs a b =
     ap (λ (r : Result EntityTree ℕ). with_typed i.number r (all_typed (is ++ ys))) h.2 ∙ ap (with_typed i.number (Ok h.0)) (trees_join is ys h.1 fs h.3 b)
     ∙ ap (λ (ts : List EntityTree). Ok (ts ++ fs)) (sym h.4)
 
-typed_join : (xs ys : List InstanceTree) (es fs : List Entity) → all_typed xs ≡ Ok (map entity_of es) → all_typed ys ≡ Ok (map entity_of fs) → all_typed (xs ++ ys) ≡ Ok (map entity_of (es ++ fs))
+pub typed_join : (xs ys : List InstanceTree) (es fs : List Entity) → all_typed xs ≡ Ok (map entity_of es) → all_typed ys ≡ Ok (map entity_of fs) → all_typed (xs ++ ys) ≡ Ok (map entity_of (es ++ fs))
 typed_join xs ys es fs a b = trees_join xs ys (map entity_of es) (map entity_of fs) a b ∙ ap (λ (ts : List EntityTree). Ok ts) (sym (map-append entity_of es fs))
+
+-- the first bad attribute is that of more instances, wherever these stand
+fault_behind : (xs ys : List InstanceTree) (es : List EntityTree) (f : TypeErr) → all_typed xs ≡ Ok es → all_typed ys ≡ Err f → all_typed (xs ++ ys) ≡ Err f
+fault_behind [] ys es f a b = b
+fault_behind (i ∷ is) ys es f a b =
+    let h = ok_parts i.number (typed_of i) (all_typed is) es a in
+    ap (λ (r : Result EntityTree ℕ). with_typed i.number r (all_typed (is ++ ys))) h.2 ∙ ap (with_typed i.number (Ok h.0)) (fault_behind is ys h.1 f h.3 b)
+
+fault_before : (xs ys : List InstanceTree) (f : TypeErr) → all_typed xs ≡ Err f → all_typed (xs ++ ys) ≡ Err f
+fault_before [] ys f a = absurd cc
+fault_before (i ∷ is) ys f a = by (typed_of i) refl
+  where
+    on : (t : EntityTree) → typed_of i ≡ Ok t → (r : Result (List EntityTree) TypeErr) → all_typed is ≡ r → with_typed i.number (Ok t) r ≡ Err f → all_typed ((i ∷ is) ++ ys) ≡ Err f
+    on t e (Ok ts) rest h = absurd cc
+    on t e (Err g) rest h =
+        let same : all_typed is ≡ Err f = rest ∙ h in
+        ap (λ (r : Result EntityTree ℕ). with_typed i.number r (all_typed (is ++ ys))) e ∙ ap (with_typed i.number (Ok t)) (fault_before is ys f same)
+
+    by : (r : Result EntityTree ℕ) → typed_of i ≡ r → all_typed ((i ∷ is) ++ ys) ≡ Err f
+    by (Ok t) e = on t e (all_typed is) refl (ap (λ (r : Result EntityTree ℕ). with_typed i.number r (all_typed is)) (sym e) ∙ a)
+    by (Err p) e =
+        let here : with_typed i.number (Err p) (all_typed is) ≡ Err f = ap (λ (r : Result EntityTree ℕ). with_typed i.number r (all_typed is)) (sym e) ∙ a in
+        ap (λ (r : Result EntityTree ℕ). with_typed i.number r (all_typed (is ++ ys))) e ∙ here
+
+-- ---- what is kept
+
+pub kept_more : (items others : List InstanceTree) (es : List Entity) (v : Vec Entity) → IsKept items es None → AllTyped others (Ok v) → IsKept (items ++ others) (es ++ v.items) None
+kept_more items others es v kept typed = typed_join items others es v.items kept typed.0
+
+pub kept_fault : (items others : List InstanceTree) (es fs : List Entity) (reason : ProjectReason) → IsKept items es None → AllTyped others (Err (Refused reason)) → IsKept (items ++ others) fs (Some reason)
+kept_fault items others es fs (reasons.Attribute f) kept said = fault_behind items others (map entity_of es) f kept said
+kept_fault items others es fs reasons.TooLong kept said = absurd said
+kept_fault items others es fs (reasons.Read f) kept said = absurd said
+kept_fault items others es fs (reasons.Store f) kept said = absurd said
+kept_fault items others es fs reasons.NotBuilt kept said = absurd said
+kept_fault items others es fs (reasons.Definition n f) kept said = absurd said
+kept_fault items others es fs (reasons.NoStep n) kept said = absurd said
+
+pub kept_still : (items others : List InstanceTree) (es : List Entity) (reason : ProjectReason) → IsKept items es (Some reason) → IsKept (items ++ others) es (Some reason)
+kept_still items others es (reasons.Attribute f) said = fault_before items others f said
+kept_still items others es reasons.TooLong said = absurd said
+kept_still items others es (reasons.Read f) said = absurd said
+kept_still items others es (reasons.Store f) said = absurd said
+kept_still items others es reasons.NotBuilt said = absurd said
+kept_still items others es (reasons.Definition n f) said = absurd said
+kept_still items others es (reasons.NoStep n) said = absurd said
+
+-- the numbers of more instances
+pub numbers_more : (items others : List InstanceTree) (ns ms : List ℕ) → ns ≡ map own_number_of items → ms ≡ ns ++ map own_number_of others → ms ≡ map own_number_of (items ++ others)
+numbers_more items others ns ms is more_is = more_is ∙ ap (λ (ks : List ℕ). ks ++ map own_number_of others) is ∙ sym (map-append own_number_of items others)
 
 -- ---- bytes
 
@@ -52,36 +113,44 @@ take_on (suc a) n (x ∷ xs) =
 
 -- ---- the file
 
--- The front of a file up to a place is read, and its instances are these entities.
-pub record Read (bytes : List ℕ) (at : ℕ) (entities : List Entity) : Type 0 where
-  pub exchange : ExchangeTree
-  pub front : IsFront (take at bytes) exchange
-  pub typed : all_typed exchange.items ≡ Ok (map entity_of entities)
+-- One slice more.
+pub goes_on : (bytes : List ℕ) (at len : ℕ) (items : List InstanceTree) (old new : Gathered) (read : IsReadTo bytes at old) → IsWhole (take len (drop at bytes)) items → IsGathered (read.exchange.items ++ items) new
+    → length (read.exchange.items ++ items) ≤ MAX_INSTANCES → at + len ≤ length bytes → IsReadTo bytes (at + len) new
+goes_on bytes at len items old new read slice gathered few within = record {
+  exchange = with_items read.exchange items;
+  front = subst (λ (b : List ℕ). IsFront b (with_items read.exchange items)) (take_on at len bytes) (more (take at bytes) (take len (drop at bytes)) read.exchange items read.front slice);
+  gathered = gathered;
+  few = few;
+  within = within;
+}
 
-pub begun : (bytes : List ℕ) (at : ℕ) (x : ExchangeTree) (es : List Entity) → IsFront (take at bytes) x → all_typed x.items ≡ Ok (map entity_of es) → Read bytes at es
-begun bytes at x es front typed = record { exchange = x; front = front; typed = typed }
+-- Why a text is no file is why it holds no project.
+pub not_read : (bytes : List ℕ) (e : ReadErr) → length bytes ≤ MAX_PROJECT_BYTES → IsRefusedText bytes e → ReadsEntities bytes (Err (from_read e))
+not_read bytes (reads.Lex lexes.NoMemory) short at = tt
+not_read bytes (reads.Lex (lexes.BadByte place)) short at = (short, at)
+not_read bytes (reads.Lex (lexes.BadName place)) short at = (short, at)
+not_read bytes (reads.Lex (lexes.OpenString place)) short at = (short, at)
+not_read bytes (reads.Lex (lexes.OpenComment place)) short at = (short, at)
+not_read bytes (reads.Lex (lexes.NumberTooLong place)) short at = (short, at)
+not_read bytes (reads.Syntax place) short at = (short, at)
+not_read bytes (reads.TooDeep place) short at = (short, at)
+not_read bytes (reads.TooMany place) short at = (short, at)
+not_read bytes (reads.Duplicate number) short at = (short, at)
+not_read bytes reads.NoMemory short at = tt
 
-pub goes_on : (bytes : List ℕ) (at len : ℕ) (es fs : List Entity) (items : List InstanceTree) → Read bytes at es → IsWhole (take len (drop at bytes)) items → all_typed items ≡ Ok (map entity_of fs) → Read bytes (at + len) (es ++ fs)
-goes_on bytes at len es fs items read slice typed =
-    let longer = more (take at bytes) (take len (drop at bytes)) read.exchange items read.front slice.ends slice.is slice.last in
-    record {
-      exchange = with_items read.exchange items;
-      front = subst (λ (b : List ℕ). IsFront b (with_items read.exchange items)) (take_on at len bytes) longer;
-      typed = typed_join read.exchange.items items es fs read.typed typed;
-    }
+-- The text is a file of instances, and these are their entities, or this their first bad attribute.
+pub text_typed : (bytes : List ℕ) (x : ExchangeTree) (r : Result (Vec Entity) ProjectErr) → length bytes ≤ MAX_PROJECT_BYTES → IsText bytes x → AllTyped x.items r → ReadsEntities bytes r
+text_typed bytes x (Ok v) short text typed = (record { exchange = x; has = record { short = short; spelled = text }; typed = typed.0 }, subst (λ (ns : List ℕ). IsDistinct nat_eq ns) (sym typed.1) text.allowed.distinct)
+text_typed bytes x (Err (Refused (reasons.Attribute f))) short text said = (x, record { short = short; spelled = text }, said)
+text_typed bytes x (Err (Refused reasons.TooLong)) short text said = absurd said
+text_typed bytes x (Err (Refused (reasons.Read f))) short text said = absurd said
+text_typed bytes x (Err (Refused (reasons.Store f))) short text said = absurd said
+text_typed bytes x (Err (Refused reasons.NotBuilt)) short text said = absurd said
+text_typed bytes x (Err (Refused (reasons.Definition n f))) short text said = absurd said
+text_typed bytes x (Err (Refused (reasons.NoStep n))) short text said = absurd said
+text_typed bytes x (Err NoMemory) short text said = tt
 
-all_of : (x : ExchangeTree) (es : List Entity) → all_typed x.items ≡ Ok (map entity_of es) → all_typed (with_items x []).items ≡ Ok (map entity_of es)
-all_of x es typed = ap all_typed (append-nil x.items) ∙ typed
-
-pub finished : (bytes : List ℕ) (end : ℕ) (es : List Entity) → length bytes ≤ MAX_PROJECT_BYTES → Read bytes end es → IsSlice (drop end bytes) [] spell_last → length es ≤ MAX_INSTANCES → IsDistinct nat_eq (numbers_of es) → HasEntities bytes es
-finished bytes end es short read last few distinct =
-    let x = with_items read.exchange [] in
-    let typed : all_typed x.items ≡ Ok (map entity_of es) = all_of read.exchange es read.typed in
-    let numbers : numbers_of es ≡ map own_number_of x.items = typed_numbers x.items es typed in
-    let few_items : length x.items ≤ MAX_INSTANCES = omega (arith, few, length-map es (λ (e : Entity). e.number), ap length numbers, length-map x.items own_number_of) in
-    let file : IsText (take end bytes ++ drop end bytes) x = whole (take end bytes) (drop end bytes) read.exchange [] read.front last few_items (subst (IsDistinct nat_eq) numbers distinct) in
-    record {
-      exchange = x;
-      has = record { short = short; spelled = subst (λ (b : List ℕ). IsText b x) (take-append-drop end bytes) file };
-      typed = typed;
-    }
+-- No entities, then no store.
+pub no_entities : (bytes : List ℕ) (e : ProjectErr) → ReadsEntities bytes (Err e) → ReadsStore bytes (Err e)
+no_entities bytes (Refused reason) said = said
+no_entities bytes NoMemory said = tt

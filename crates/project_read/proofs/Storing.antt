@@ -12,18 +12,7 @@ use Rattle.project_read.specs.declared.reason.ProjectErr.TheVariants.{Refused, N
 use Rattle.project_read.specs.Errors.{from_store}
 use Rattle.project_read.specs.Typing.{all_typed}
 use Rattle.project_read.specs.Holds.{HasExchange, HasEntities, HasStore}
-use Rattle.project_read.specs.Reads.{AllTyped, ReadsStore}
-
--- no entities: then no store
-pub untyped_stop : (bytes : List ℕ) (x : ExchangeTree) (e : ProjectErr) → HasExchange bytes x → AllTyped x.items (Err e) → ReadsStore bytes (Err e)
-untyped_stop bytes x (Refused (reasons.Attribute fault)) has said = (x, has, said)
-untyped_stop bytes x (Refused reasons.TooLong) has said = absurd said
-untyped_stop bytes x (Refused (reasons.Read fault)) has said = absurd said
-untyped_stop bytes x (Refused (reasons.Store fault)) has said = absurd said
-untyped_stop bytes x (Refused reasons.NotBuilt) has said = absurd said
-untyped_stop bytes x (Refused (reasons.Definition n fault)) has said = absurd said
-untyped_stop bytes x (Refused (reasons.NoStep n)) has said = absurd said
-untyped_stop bytes x NoMemory has said = tt
+use Rattle.project_read.specs.Reads.{ReadsStore}
 
 entities : (bytes : List ℕ) (x : ExchangeTree) (es : List Entity) → HasExchange bytes x → all_typed x.items ≡ Ok (map entity_of es) → HasEntities bytes es
 entities bytes x es has typed = record { exchange = x; has = has; typed = typed }

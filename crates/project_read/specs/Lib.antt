@@ -5,3 +5,4 @@ pub mod Holds
 pub mod Refuses
 pub mod Errors
 pub mod Reads
+pub mod Gathered

@@ -1,7 +1,7 @@
 -- What the calls of this crate answer.
-use Rattle.std.specs.Prelude.{◌≡◌, ℕ, ◌<◌, true, false, List, [], ◌∷◌, length, take, map, slice_index, Result, Ok, Err}
+use Rattle.std.specs.Prelude.{◌≡◌, ℕ, nat_eq, ◌<◌, true, false, List, [], ◌∷◌, length, take, map, slice_index, Result, Ok, Err}
 use Rattle.std.specs.Global.{Vec}
-use Rattle.std.specs.List.{list_all}
+use Rattle.std.specs.List.{list_all, IsDistinct}
 use Rattle.p21_parse.specs.Tree.{InstanceTree}
 use Rattle.p21_parse.specs.Allowed.{own_number_of}
 use Rattle.entity_types.specs.declared.entity.Entity.{Entity}
@@ -16,7 +16,7 @@ use Rattle.project_read.specs.declared.project.Project.{Project as Held}
 use Rattle.project_read.specs.Typing.{all_typed}
 use Rattle.project_read.specs.Plan.{IsPlan}
 use Rattle.project_read.specs.Faults.{has_def, is_among, IsLeastFault}
-use Rattle.project_read.specs.Holds.{Project, HasStore, Holds}
+use Rattle.project_read.specs.Holds.{Project, HasEntities, HasStore, Holds}
 use Rattle.project_read.specs.Refuses.{Refuses}
 
 -- the entities of the instances, or the first bad attribute, unless memory ran out
@@ -25,6 +25,12 @@ AllTyped instances (Ok entities) = (all_typed instances ≡ Ok (map entity_of en
 AllTyped instances (Err (Refused (Attribute fault))) = all_typed instances ≡ Err fault
 AllTyped instances (Err (Refused reason)) = ⊥
 AllTyped instances (Err NoMemory) = Unit {0}
+
+-- the entities of the bytes, of which each has a number of its own, or why there are none, unless memory ran out
+abbrev pub ReadsEntities : List ℕ → Result (Vec Entity) ProjectErr → Type 0
+ReadsEntities bytes (Ok entities) = HasEntities bytes entities.items × IsDistinct nat_eq (numbers_of entities.items)
+ReadsEntities bytes (Err (Refused reason)) = Refuses bytes reason
+ReadsEntities bytes (Err NoMemory) = Unit {0}
 
 -- the entities of the bytes as a store, or why there is none, unless memory ran out
 abbrev pub ReadsStore : List ℕ → Result (List Entity) ProjectErr → Type 0

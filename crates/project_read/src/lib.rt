@@ -7,7 +7,8 @@
 //! | reason | why a project is refused | `ProjectReason`, `ProjectErr` |
 //! | laws | bytes hold one project at most, and are refused for one reason at most | `project_laws` |
 //! | slices | the entities of a file, slice after slice | |
-//! | entities | the entities of a whole exchange | |
+//! | gathered | what is kept of the slices so far | |
+//! | entities | the entities of instances | |
 //! | plan | the main workplan | |
 //! | steps | the definitions of the main workplan's workingsteps | |
 //!
@@ -15,6 +16,7 @@
 #![tactic(auto)]
 
 mod entities;
+mod gathered;
 mod laws;
 mod plan;
 mod project;

@@ -6,14 +6,12 @@ ghost use Rattle.project_store.specs.Entities.{numbers_of};
 ghost use Rattle.project_read.specs.Holds.{HasEntities, HasStore};
 ghost use Rattle.project_read.specs.Reads.{Reads, ReadsStore};
 
-use crate::entities::store_of;
 use crate::plan::plan_of;
 use crate::project::{MAX_PROJECT_BYTES, Project};
 use crate::reason::ProjectErr;
 use crate::slices::entities_in;
 use crate::steps::steps_of;
 use entity_types::Entity;
-use p21_parse::read;
 use project_store::Store;
 use std::alloc::Global;
 
@@ -34,24 +32,13 @@ fn store_from(alloc: Global, entities: Vec<Entity>) -> Result<Store, ProjectErr>
     Ok(Store::build(alloc, entities)?)
 }
 
-/// The store of a text that is read as a whole, or why there is none.
-fn store_whole(alloc: Global, bytes: &[u8]) -> Result<Store, ProjectErr>
-    requires { length bytes.now ≤ MAX_PROJECT_BYTES }
-    ensures { ReadsStore bytes.now result }
-{
-    let exchange = read(alloc, bytes)?;
-    store_of(alloc, &exchange)
-}
-
-/// The store of a text: read slice by slice, and where it isn't read so, as a whole.
+/// The store of a text's entities, or why there is none.
 fn store_in(alloc: Global, bytes: &[u8]) -> Result<Store, ProjectErr>
     requires { length bytes.now ≤ MAX_PROJECT_BYTES }
     ensures { ReadsStore bytes.now result }
 {
-    match entities_in(alloc, bytes)? {
-        Some(entities) => store_from(alloc, entities),
-        None => store_whole(alloc, bytes),
-    }
+    let entities = entities_in(alloc, bytes)?;
+    store_from(alloc, entities)
 }
 
 /// The project in the bytes of a file, of at most `MAX_PROJECT_BYTES`: they are clear text (ISO 10303-21) of one exchange, its instances are

@@ -1,74 +1,63 @@
-//! Slice after slice: each instance's entity is kept, and the rest of the slice is dropped.
+//! The entities of a file, read slice after slice: of each slice its entities are kept, and the rest of it is dropped.
 
-ghost use Rattle.std.specs.Prelude.{◌≡◌, ◌≤◌, nat_eq, Ok, length, map, IfOk, IfSome};
-ghost use Rattle.std.specs.List.{IsDistinct};
-ghost use Rattle.p21_parse.specs.View.{instance_of};
-ghost use Rattle.entity_read.specs.Typed.{entity_of};
-ghost use Rattle.project_store.specs.Entities.{numbers_of};
-ghost use Rattle.project_read.specs.Typing.{all_typed};
-ghost use Rattle.project_read.specs.Holds.{HasEntities};
+ghost use Rattle.std.specs.Prelude.{◌≤◌, length, take, IfOk};
+ghost use Rattle.p21_parse.specs.Front.{IsFront};
+ghost use Rattle.p21_parse.specs.View.{exchange_of};
+ghost use Rattle.p21_parse.specs.declared.limits.TheConstants.{MAX_INSTANCES};
+ghost use Rattle.project_read.specs.Gathered.{IsReadTo};
+ghost use Rattle.project_read.specs.Reads.{ReadsEntities};
 
+use crate::entities::entities_of;
+use crate::gathered::Gathered;
 use crate::project::MAX_PROJECT_BYTES;
-use entity_read::{TypeErr, typed};
+use crate::reason::ProjectErr;
 use entity_types::Entity;
-use nc_base::{NoMemory, Number, are_distinct};
-use p21_parse::{Instance, MAX_INSTANCES};
-use p21_slices::{front_of, is_end, next_slice};
+use nc_base::NoMemory;
+use p21_parse::{MAX_INSTANCES, read, read_behind};
+use p21_slices::{Front, front_of, next_slice};
 use std::alloc::Global;
 
-/// The entities of instances, if each is one.
-fn slice_entities(alloc: Global, instances: &[Instance]) -> Result<Option<Vec<Entity>>, NoMemory>
-    ensures { IfOk result (λ r. IfSome r (λ v. all_typed (map instance_of instances.now) ≡ Ok (map entity_of v.items))) }
-{
-    let mut entities = Vec::with_capacity(alloc, instances.len())?;
-    for instance in instances {
-        match typed(alloc, instance) {
-            Ok(entity) => entities.push(entity)?,
-            Err(TypeErr::NoMemory) => return Err(NoMemory),
-            Err(_) => return Ok(None),
-        }
-    }
-    Ok(Some(entities))
-}
-
-/// The numbers of entities.
-fn numbers_of(alloc: Global, entities: &[Entity]) -> Result<Vec<Number>, NoMemory>
-    ensures { IfOk result (λ v. v.items ≡ numbers_of entities.now) }
-{
-    let mut numbers = Vec::with_capacity(alloc, entities.len())?;
-    for entity in entities {
-        numbers.push(entity.number)?;
-    }
-    Ok(numbers)
-}
-
-/// The entities of a text, if it is a file whose instances all are entities. Anything else is for the reader of whole files, which says
-/// why it is none.
-pub fn entities_in(alloc: Global, bytes: &[u8]) -> Result<Option<Vec<Entity>>, NoMemory>
+/// The entities of a text that is read as a whole, or why there are none.
+fn entities_whole(alloc: Global, bytes: &[u8]) -> Result<Vec<Entity>, ProjectErr>
     requires { length bytes.now ≤ MAX_PROJECT_BYTES }
-    ensures found { IfOk result (λ r. IfSome r (λ v. HasEntities bytes.now v.items)) }
-    ensures distinct { IfOk result (λ r. IfSome r (λ v. IsDistinct nat_eq (numbers_of v.items))) }
+    ensures { ReadsEntities bytes.now result }
 {
-    let Some(front) = front_of(alloc, bytes)? else {
-        return Ok(None);
-    };
-    let Some(mut entities) = slice_entities(alloc, front.exchange.items.as_slice())? else {
-        return Ok(None);
-    };
+    let exchange = read(alloc, bytes)?;
+    entities_of(alloc, exchange.items.as_slice())
+}
+
+/// The slices of a text behind its front, as far as they are whole instances, and not more than a file may have: what is kept of them, and
+/// where they end.
+fn gather(alloc: Global, bytes: &[u8], front: &Front) -> Result<(Gathered, usize), NoMemory>
+    requires short { length bytes.now ≤ MAX_PROJECT_BYTES }
+    requires front { IsFront (take front.now.len bytes.now) (exchange_of front.now.exchange) }
+    requires few { length (exchange_of front.now.exchange).items ≤ MAX_INSTANCES }
+    requires within { front.now.len ≤ length bytes.now }
+    ensures { IfOk result (λ r. IsReadTo bytes.now r.1 r.0) }
+{
+    let mut gathered = Gathered::new(alloc);
+    gathered.add(alloc, front.exchange.items.as_slice())?;
     let mut at = front.len;
     while let Some((items, len)) = next_slice(alloc, &bytes[at..])? {
-        let Some(mut more) = slice_entities(alloc, items.as_slice())? else {
-            return Ok(None);
-        };
-        entities.append(&mut more)?;
+        if gathered.numbers.len() + items.as_slice().len() > MAX_INSTANCES {
+            break;
+        }
+        gathered.add(alloc, items.as_slice())?;
         at += len;
     }
-    if entities.len() > MAX_INSTANCES || !is_end(alloc, &bytes[at..])? {
-        return Ok(None);
-    }
-    let numbers = numbers_of(alloc, entities.as_slice())?;
-    if !are_distinct(alloc, numbers.as_slice())? {
-        return Ok(None);
-    }
-    Ok(Some(entities))
+    Ok((gathered, at))
+}
+
+/// The entities of a text, or why there are none. What is left behind the slices, be it the file's end or what refuses it, is read at once.
+pub fn entities_in(alloc: Global, bytes: &[u8]) -> Result<Vec<Entity>, ProjectErr>
+    requires { length bytes.now ≤ MAX_PROJECT_BYTES }
+    ensures { ReadsEntities bytes.now result }
+{
+    let Some(front) = front_of(alloc, bytes)? else {
+        return entities_whole(alloc, bytes);
+    };
+    let (mut gathered, at) = gather(alloc, bytes, &front)?;
+    let rest = read_behind(alloc, bytes, at as u32, gathered.numbers.as_slice())?;
+    gathered.add(alloc, rest.as_slice())?;
+    gathered.finish()
 }

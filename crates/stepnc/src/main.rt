@@ -30,14 +30,19 @@ fn project_name(words: &[NcText]) -> &str {
     }
 }
 
-/// Says in one line on standard error what a person has to know beside the status and the refusal line. Whether that line can be
-/// written changes nothing.
-fn tell(rt: HostRuntime, words: &[NcText], status: Status) {
+/// Says in one line on standard error what a person has to know beside the status and the refusal line, with what the host said of a file
+/// that it could not read. Whether that line can be written changes nothing.
+fn tell(rt: HostRuntime, words: &[NcText], status: Status, said: Option<&io::Error>) {
     let _ = match status {
         Status::BadWords(_) => eprintln!(rt; "stepnc: `stepnc --help` shows the commands"),
         Status::ReadFault => {
             let name = project_name(words);
-            eprintln!(rt; "stepnc: the project file {name} could not be read")
+            match said {
+                Some(error) => {
+                    eprintln!(rt; "stepnc: the project file {name} could not be read: {error}")
+                }
+                None => eprintln!(rt; "stepnc: the project file {name} could not be read"),
+            }
         }
         Status::WriteFault => {
             eprintln!(rt; "stepnc: standard output could not take all that was to be written")
@@ -51,22 +56,25 @@ fn tell(rt: HostRuntime, words: &[NcText], status: Status) {
 fn serve(rt: HostRuntime, words: &[NcText]) -> Result<Status, NoMemory> {
     let mut files = HostFiles::new(&rt);
     let mut sink = HostSink::new(rt.alloc(), io::writer(&rt))?;
-    let status = top(&rt, words, &mut files, &mut sink, &FreeGate);
+    let mut status = top(&rt, words, &mut files, &mut sink, &FreeGate);
     if status != Status::WriteFault && sink.flush().is_err() {
-        return Ok(Status::WriteFault);
+        status = Status::WriteFault;
     }
+    tell(rt, words, status, files.said());
     Ok(status)
 }
 
+/// The status of the command in the program's words.
+fn answer(rt: HostRuntime) -> Result<Status, NoMemory> {
+    let words = words_of(rt)?;
+    serve(rt, words.as_slice())
+}
+
 fn main(rt: HostRuntime) -> ExitCode {
-    let status = match words_of(rt) {
-        Ok(words) => {
-            let status = serve(rt, words.as_slice()).unwrap_or(Status::NoMemory);
-            tell(rt, words.as_slice(), status);
-            status
-        }
+    let status = match answer(rt) {
+        Ok(status) => status,
         Err(NoMemory) => {
-            tell(rt, &[], Status::NoMemory);
+            tell(rt, &[], Status::NoMemory, None);
             Status::NoMemory
         }
     };

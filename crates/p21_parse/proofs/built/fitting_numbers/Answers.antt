@@ -1,4 +1,4 @@
-use Rattle.p21_parse.proofs.Building.{nothing_yet, all_fitting, stops_many, stops_item, looked_more}
+use Rattle.p21_parse.proofs.Building.{nothing_yet, stops_many, stops_item, looked_more}
 use Rattle.p21_parse.proofs.built.fitting_numbers.Goals as goal
 
 pub loop-at-init : goal.loop-at-init

@@ -1,4 +1,4 @@
-use Rattle.std.proofs.Common.{◌≡◌, ap, ◌∙◌}
+use Rattle.std.proofs.Common.{ap, ◌∙◌}
 use Rattle.p21_parse.specs.View.{tree_of}
 use Rattle.p21_parse.specs.Tree.{Tree, Trees, none, first, list, with_last}
 use Rattle.p21_parse.proofs.ViewLemmas.{tree_of-List}

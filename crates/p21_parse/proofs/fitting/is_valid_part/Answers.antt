@@ -1,4 +1,4 @@
-use Rattle.std.proofs.Common.{◌≡◌, ◌↔◌, ℕ, IsTrue, List, subst}
+use Rattle.std.proofs.Common.{◌↔◌, ℕ, IsTrue, List, subst}
 use Rattle.std.specs.List.{AllByRecursion}
 use Rattle.p21_parse.specs.Symbol.{keyword}
 use Rattle.p21_parse.specs.Tree.{Tree}

@@ -1,4 +1,4 @@
-use Rattle.std.proofs.Common.{◌≤◌, length, Fits, arith}
+use Rattle.std.proofs.Common.{arith}
 use Rattle.std.proofs.lemmas.List.Elements.{recursion_from_All}
 use Rattle.p21_lex.specs.Reading.{IsToken}
 use Rattle.p21_parse.proofs.Followed.{tokens_few}

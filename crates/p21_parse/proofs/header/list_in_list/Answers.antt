@@ -1,4 +1,4 @@
-use Rattle.std.proofs.Common.{◌≡◌, ap, ◌∙◌}
+use Rattle.std.proofs.Common.{ap, ◌∙◌}
 use Rattle.p21_parse.specs.declared.param.Param.TheVariants as params
 use Rattle.p21_parse.specs.Tree.{Tree, Trees, none, first, with_last}
 use Rattle.p21_parse.specs.View.{tree_of}

@@ -1,6 +1,6 @@
-use Rattle.std.proofs.Common.{◌≡◌, ap, ◌∙◌}
+use Rattle.std.proofs.Common.{ap, ◌∙◌}
 use Rattle.p21_parse.specs.Tree.{Trees, typed, with_last}
-use Rattle.p21_parse.specs.View.{tree_of, trees_of}
+use Rattle.p21_parse.specs.View.{tree_of}
 use Rattle.p21_parse.proofs.ViewLemmas.{tree_of-Typed}
 use Rattle.p21_parse.proofs.parameters.typed_of.Goals as goal
 

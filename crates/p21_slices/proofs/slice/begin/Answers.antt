@@ -6,8 +6,8 @@ use Rattle.p21_join.specs.Join.{EndsInSemicolon, LastIsSemicolon}
 use Rattle.p21_slices.proofs.Parts.{begins}
 use Rattle.p21_slices.proofs.slice.begin.Goals as goal
 
-pub returns-in-Ok : goal.returns-in-Ok
-returns-in-Ok c =
+pub returns-in-Ok-clause-front : goal.returns-in-Ok-clause-front
+returns-in-Ok-clause-front c =
     let front = c.args.front.now in
     let ts = c.in-Some.first.items in
     let us = c.in-Some-2.last.items in

@@ -2,9 +2,8 @@ use Rattle.std.proofs.Common.{◌+◌, arith}
 use Rattle.std.proofs.lemmas.Result.{err_from_is_err_and}
 use Rattle.p21_parse.specs.Symbol.{opening, closing, comma}
 use Rattle.p21_parse.specs.View.{tree_of, trees_of}
-use Rattle.p21_parse.specs.Machine.{parameter, parameter_list}
 use Rattle.p21_parse.proofs.Marks.{opens, closes, parts}
-use Rattle.p21_parse.proofs.Listing.{one_refused, one_more, unclosed, closed, refused_here, list_read, list_refused, list_is, typed_read, typed_is, typed_shut, typed_empty, typed_open, nothing, some_list, some_refused}
+use Rattle.p21_parse.proofs.Listing.{one_refused, one_more, unclosed, closed, refused_here, list_read, list_is, typed_read, typed_is, typed_open, nothing, some_list, some_refused}
 use Rattle.p21_parse.proofs.source.Source.+params.Goals as goal
 
 pub list-returns-clause-read : goal.list-returns-clause-read

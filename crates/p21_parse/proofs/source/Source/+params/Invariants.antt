@@ -1,4 +1,4 @@
-use Rattle.std.proofs.Common.{◌*◌, ◌+◌, ◌-◌, ◌<◌, ◌≤◌, length}
+use Rattle.std.proofs.Common.{◌*◌, ◌+◌, ◌-◌, length}
 use Rattle.p21_parse.specs.View.{trees_of}
 use Rattle.p21_parse.proofs.Listing.{Listed}
 use Rattle.p21_parse.proofs.source.Source.+params.Given as goal

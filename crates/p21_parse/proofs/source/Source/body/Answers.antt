@@ -1,10 +1,9 @@
-use Rattle.std.proofs.Common.{◌≡◌, ◌∷◌, [], ◌++◌, List, map, ap, ◌∙◌, arith}
+use Rattle.std.proofs.Common.{map, arith}
 use Rattle.std.proofs.lemmas.Result.{err_from_is_err_and}
-use Rattle.p21_parse.specs.declared.exchange.Part.{Part}
 use Rattle.p21_parse.specs.Symbol.{opening}
 use Rattle.p21_parse.specs.View.{part_of}
 use Rattle.p21_parse.proofs.Marks.{opens}
-use Rattle.p21_parse.proofs.Parting.{complex_read, complex_refused, simple_read, simple_refused}
+use Rattle.p21_parse.proofs.Parting.{complex_read, complex_refused, simple_refused}
 use Rattle.p21_parse.proofs.source.Source.body.Goals as goal
 
 pub parts-requires-clause-at : goal.parts-requires-clause-at

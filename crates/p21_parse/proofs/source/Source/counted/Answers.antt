@@ -1,6 +1,5 @@
-use Rattle.std.proofs.Common.{◌≡◌, ◌+◌, ◌-◌, suc, arith, nat_lt}
+use Rattle.std.proofs.Common.{◌≡◌, ◌-◌, suc, arith}
 use Rattle.std.proofs.lemmas.Result.{err_from_is_err_and}
-use Rattle.std.proofs.lemmas.Bool.Decides.{nat_tests}
 use Rattle.p21_parse.specs.Symbol.{comma, closing}
 use Rattle.p21_parse.specs.View.{tree_of, trees_of}
 use Rattle.p21_parse.proofs.Marks.{parts, closes}

@@ -1,7 +1,7 @@
 use Rattle.std.proofs.lemmas.Result.{err_from_is_err_and}
 use Rattle.p21_parse.specs.Symbol.{semicolon}
 use Rattle.p21_parse.specs.Spell.{spell_list}
-use Rattle.p21_parse.specs.View.{part_of, trees_of}
+use Rattle.p21_parse.specs.View.{trees_of}
 use Rattle.p21_parse.proofs.Marks.{ends}
 use Rattle.p21_parse.proofs.Heading.{entry_missing, entry_shut, entry_empty, entry_open, entry_read}
 use Rattle.p21_parse.proofs.source.Source.entry.Goals as goal

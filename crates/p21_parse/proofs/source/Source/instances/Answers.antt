@@ -1,7 +1,7 @@
 use Rattle.std.proofs.Common.{map, ap, ◌∙◌}
 use Rattle.std.proofs.lemmas.List.{map_push}
 use Rattle.p21_parse.specs.View.{instance_of}
-use Rattle.p21_parse.proofs.Parting.{one_instance, instance_refused, all_read}
+use Rattle.p21_parse.proofs.Parting.{one_instance}
 use Rattle.p21_parse.proofs.source.Source.instances.Goals as goal
 
 pub loop-number-preserved : goal.loop-number-preserved

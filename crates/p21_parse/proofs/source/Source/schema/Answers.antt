@@ -4,7 +4,7 @@ use Rattle.p21_parse.specs.Symbol.{closing, semicolon}
 use Rattle.p21_parse.specs.Spell.{spell_list}
 use Rattle.p21_parse.specs.View.{trees_of}
 use Rattle.p21_parse.proofs.Marks.{closes, ends}
-use Rattle.p21_parse.proofs.Heading.{schema_missing, schema_shut, schema_shut_twice, schema_nameless, schema_open, schema_endless, schema_read, schema_is}
+use Rattle.p21_parse.proofs.Heading.{schema_missing, schema_endless, schema_read, schema_is}
 use Rattle.p21_parse.proofs.source.Source.schema.Goals as goal
 
 pub returns-in_err-start-clause-refused : goal.returns-in_err-start-clause-refused

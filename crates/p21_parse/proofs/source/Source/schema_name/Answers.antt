@@ -1,4 +1,4 @@
-use Rattle.p21_parse.proofs.Heading.{name_read, no_text}
+use Rattle.p21_parse.proofs.Heading.{no_text}
 use Rattle.p21_parse.proofs.source.Source.schema_name.Goals as goal
 
 pub returns-in-None-clause-refused : goal.returns-in-None-clause-refused
