@@ -1,21 +1,15 @@
 -- What bytes hold, from their exchange to their project.
-use Rattle.std.proofs.Common.{◌≡◌, ℕ, ◌≤◌, true, length, List, Ok, Err, sym, subst}
+use Rattle.std.proofs.Common.{◌≡◌, ℕ, true, List, Ok, Err, sym, subst}
 use Rattle.std.specs.List.{list_all}
-use Rattle.p21_lex.specs.declared.error.LexErr.TheVariants as lexes
-use Rattle.p21_parse.specs.declared.error.ReadErr.{ReadErr}
-use Rattle.p21_parse.specs.declared.error.ReadErr.TheVariants as reads
-use Rattle.p21_parse.specs.Text.{IsRefusedText}
 use Rattle.entity_types.specs.declared.entity.Entity.{Entity}
 use Rattle.project_read.specs.declared.reason.ProjectReason.TheVariants as reasons
 use Rattle.project_read.specs.declared.reason.ProjectErr.{ProjectErr}
 use Rattle.project_read.specs.declared.reason.ProjectErr.TheVariants.{Refused, NoMemory}
 use Rattle.project_read.specs.declared.project.Project.{Project as Held}
-use Rattle.project_read.specs.Errors.{from_read}
 use Rattle.project_read.specs.Plan.{IsPlan}
 use Rattle.project_read.specs.Faults.{has_def}
 use Rattle.project_read.specs.Holds.{HasStore}
 use Rattle.project_read.specs.Reads.{Reads, ReadsStore, HasNoPlan, AreSteps}
-use Rattle.project_read.specs.declared.project.TheConstants.{MAX_PROJECT_BYTES}
 
 pub no_store : (bytes : List ℕ) (e : ProjectErr) → ReadsStore bytes (Err e) → Reads bytes (Err e)
 no_store bytes (Refused reason) said = said

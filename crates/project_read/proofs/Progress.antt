@@ -1,8 +1,10 @@
 -- How far a file is read: its front, and what is kept of the instances there.
-use Rattle.std.proofs.Common.{◌≡◌, ℕ, zero, suc, ◌+◌, ◌≤◌, nat_eq, List, [], ◌∷◌, ◌++◌, length, map, take, drop, Option, Some, None, Result, Ok, Err, refl, sym, ap, subst, ◌∙◌, arith}
+use Rattle.std.proofs.Common.{◌≡◌, ℕ, zero, suc, ◌+◌, ◌≤◌, nat_eq, List, [], ◌∷◌, ◌++◌, true, false, length, map, take, drop, Option, Some, None, Result, Ok, Err, refl, sym, ap, subst, ◌∙◌, arith}
+use Rattle.std.specs.Prelude.{OnOk}
+use Rattle.std.specs.Option.{is_some}
 use Rattle.std.specs.List.{IsDistinct}
 use Rattle.std.specs.Global.{Vec}
-use Rattle.std.proofs.lemmas.List.{map-append, length-append}
+use Rattle.std.proofs.lemmas.List.{map-append, length-append, length-map}
 use Rattle.p21_lex.specs.declared.error.LexErr.TheVariants as lexes
 use Rattle.p21_parse.specs.declared.error.ReadErr.{ReadErr}
 use Rattle.p21_parse.specs.declared.error.ReadErr.TheVariants as reads
@@ -14,7 +16,6 @@ use Rattle.p21_parse.specs.Text.{IsText, IsRefusedText}
 use Rattle.entity_types.specs.declared.entity.Entity.{Entity}
 use Rattle.entity_read.specs.declared.error.TypeErr.{TypeErr}
 use Rattle.entity_read.specs.Typed.{EntityTree, entity_of, typed_of}
-use Rattle.project_store.specs.Entities.{numbers_of}
 use Rattle.project_read.specs.declared.gathered.Gathered.{Gathered}
 use Rattle.project_read.specs.declared.project.TheConstants.{MAX_PROJECT_BYTES}
 use Rattle.project_read.specs.declared.reason.ProjectReason.{ProjectReason}
@@ -23,7 +24,6 @@ use Rattle.project_read.specs.declared.reason.ProjectErr.{ProjectErr}
 use Rattle.project_read.specs.declared.reason.ProjectErr.TheVariants.{Refused, NoMemory}
 use Rattle.project_read.specs.Errors.{from_read}
 use Rattle.project_read.specs.Typing.{with_typed, all_typed}
-use Rattle.project_read.specs.Holds.{HasEntities}
 use Rattle.project_read.specs.Reads.{AllTyped, ReadsEntities, ReadsStore}
 use Rattle.project_read.specs.Gathered.{IsKept, IsGathered, IsReadTo}
 use Rattle.p21_slices.specs.Slices.{IsWhole}
@@ -56,19 +56,19 @@ fault_behind (i ∷ is) ys es f a b =
 
 fault_before : (xs ys : List InstanceTree) (f : TypeErr) → all_typed xs ≡ Err f → all_typed (xs ++ ys) ≡ Err f
 fault_before [] ys f a = absurd cc
-fault_before (i ∷ is) ys f a = by (typed_of i) refl
+fault_before (i ∷ is) ys f a = by (fault_before is ys f) (typed_of i) refl
   where
-    on : (t : EntityTree) → typed_of i ≡ Ok t → (r : Result (List EntityTree) TypeErr) → all_typed is ≡ r → with_typed i.number (Ok t) r ≡ Err f → all_typed ((i ∷ is) ++ ys) ≡ Err f
-    on t e (Ok ts) rest h = absurd cc
-    on t e (Err g) rest h =
-        let same : all_typed is ≡ Err f = rest ∙ h in
-        ap (λ (r : Result EntityTree ℕ). with_typed i.number r (all_typed (is ++ ys))) e ∙ ap (with_typed i.number (Ok t)) (fault_before is ys f same)
-
-    by : (r : Result EntityTree ℕ) → typed_of i ≡ r → all_typed ((i ∷ is) ++ ys) ≡ Err f
-    by (Ok t) e = on t e (all_typed is) refl (ap (λ (r : Result EntityTree ℕ). with_typed i.number r (all_typed is)) (sym e) ∙ a)
-    by (Err p) e =
+    by : (all_typed is ≡ Err f → all_typed (is ++ ys) ≡ Err f) → (r : Result EntityTree ℕ) → typed_of i ≡ r → all_typed ((i ∷ is) ++ ys) ≡ Err f
+    by on (Err p) e =
         let here : with_typed i.number (Err p) (all_typed is) ≡ Err f = ap (λ (r : Result EntityTree ℕ). with_typed i.number r (all_typed is)) (sym e) ∙ a in
         ap (λ (r : Result EntityTree ℕ). with_typed i.number r (all_typed (is ++ ys))) e ∙ here
+    by on (Ok t) e = rest (all_typed is) refl (ap (λ (r : Result EntityTree ℕ). with_typed i.number r (all_typed is)) (sym e) ∙ a)
+      where
+        rest : (r : Result (List EntityTree) TypeErr) → all_typed is ≡ r → with_typed i.number (Ok t) (all_typed is) ≡ Err f → all_typed ((i ∷ is) ++ ys) ≡ Err f
+        rest (Ok ts) is_ok h = let no : Ok (t ∷ ts) ≡ Err f = ap (with_typed i.number (Ok t)) (sym is_ok) ∙ h in absurd cc
+        rest (Err g) is_err h =
+            let same : Err g ≡ Err f = ap (with_typed i.number (Ok t)) (sym is_err) ∙ h in
+            ap (λ (r : Result EntityTree ℕ). with_typed i.number r (all_typed (is ++ ys))) e ∙ ap (with_typed i.number (Ok t)) (on (is_err ∙ same))
 
 -- ---- what is kept
 
@@ -93,6 +93,22 @@ kept_still items others es reasons.NotBuilt said = absurd said
 kept_still items others es (reasons.Definition n f) said = absurd said
 kept_still items others es (reasons.NoStep n) said = absurd said
 
+-- what was kept up to a bad attribute stays
+pub still_kept : (items others : List InstanceTree) (es fs : List Entity) (old new : Option ProjectReason) → IsKept items es old → fs ≡ es → new ≡ old → is_some new ≡ true → IsKept (items ++ others) fs new
+still_kept items others es fs old None kept same is some = absurd cc
+still_kept items others es fs old (Some reason) kept same is some =
+    kept_still items others fs reason (subst (λ (xs : List Entity). IsKept items xs (Some reason)) (sym same) (subst (λ (o : Option ProjectReason). IsKept items es o) (sym is) kept))
+
+-- no bad attribute was kept
+pub none_kept : (items : List InstanceTree) (es fs : List Entity) (old new : Option ProjectReason) → IsKept items es old → fs ≡ es → new ≡ old → is_some new ≡ false → IsKept items fs None
+none_kept items es fs old None kept same is none = subst (λ (xs : List Entity). IsKept items xs None) (sym same) (subst (λ (o : Option ProjectReason). IsKept items es o) (sym is) kept)
+none_kept items es fs old (Some reason) kept same is none = absurd cc
+
+-- two things that hold after Ok
+pub both_on : {P Q R : Type 0} {E : Type 0} (r : Result (Unit {0}) E) → OnOk r P → OnOk r Q → (P → Q → R) → OnOk r R
+both_on (Ok x) p q f = f p q
+both_on (Err e) p q f = tt
+
 -- the numbers of more instances
 pub numbers_more : (items others : List InstanceTree) (ns ms : List ℕ) → ns ≡ map own_number_of items → ms ≡ ns ++ map own_number_of others → ms ≡ map own_number_of (items ++ others)
 numbers_more items others ns ms is more_is = more_is ∙ ap (λ (ks : List ℕ). ks ++ map own_number_of others) is ∙ sym (map-append own_number_of items others)
@@ -112,6 +128,14 @@ take_on (suc a) n (x ∷ xs) =
     ap (λ (ys : List ℕ). x ∷ ys) (take_on a n xs) ∙ ap (λ (k : ℕ). take k (x ∷ xs)) (sym same)
 
 -- ---- the file
+
+-- Nothing but the front.
+pub begun : (bytes : List ℕ) (at : ℕ) (x : ExchangeTree) (g : Gathered) → IsFront (take at bytes) x → IsGathered x.items g → length x.items ≤ MAX_INSTANCES → at ≤ length bytes → IsReadTo bytes at g
+begun bytes at x g front gathered few within = record { exchange = x; front = front; gathered = gathered; few = few; within = within }
+
+-- With so many instances more there are few enough.
+pub few_still : (items others : List InstanceTree) (ns : List ℕ) (n : ℕ) → ns ≡ map own_number_of items → length ns + n ≤ MAX_INSTANCES → length others ≡ n → length (items ++ others) ≤ MAX_INSTANCES
+few_still items others ns n is few many = omega (arith, few, ap length is, length-map items own_number_of, length-append items others, many)
 
 -- One slice more.
 pub goes_on : (bytes : List ℕ) (at len : ℕ) (items : List InstanceTree) (old new : Gathered) (read : IsReadTo bytes at old) → IsWhole (take len (drop at bytes)) items → IsGathered (read.exchange.items ++ items) new

@@ -6,9 +6,6 @@ use Rattle.entity_read.specs.Typed.{entity_of}
 use Rattle.project_store.specs.declared.error.StoreErr.{StoreErr}
 use Rattle.project_store.specs.declared.error.StoreErr.TheVariants as stores
 use Rattle.project_store.specs.Build.{Builds}
-use Rattle.project_read.specs.declared.reason.ProjectReason.TheVariants as reasons
-use Rattle.project_read.specs.declared.reason.ProjectErr.{ProjectErr}
-use Rattle.project_read.specs.declared.reason.ProjectErr.TheVariants.{Refused, NoMemory}
 use Rattle.project_read.specs.Errors.{from_store}
 use Rattle.project_read.specs.Typing.{all_typed}
 use Rattle.project_read.specs.Holds.{HasExchange, HasEntities, HasStore}

@@ -38,8 +38,8 @@ impl Gathered {
     /// Keeps the numbers of further instances.
     fn add_numbers(&mut self, instances: &[Instance]) -> Result<(), NoMemory>
         ensures numbers { OnOk result (self.new.numbers.items ≡ self.old.numbers.items ++ map own_number_of (map instance_of instances.now)) }
-        ensures entities { self.new.entities ≡ self.old.entities }
-        ensures fault { self.new.fault ≡ self.old.fault }
+        ensures entities { OnOk result (self.new.entities ≡ self.old.entities) }
+        ensures fault { OnOk result (self.new.fault ≡ self.old.fault) }
     {
         for instance in instances {
             self.numbers.push(instance.number)?;
@@ -51,7 +51,7 @@ impl Gathered {
     fn add_entities(&mut self, alloc: Global, instances: &[Instance]) -> Result<(), NoMemory>
         ensures kept { (items : List InstanceTree) → IsKept items self.old.entities.items None
             → OnOk result (IsKept (items ++ map instance_of instances.now) self.new.entities.items self.new.fault) }
-        ensures numbers { self.new.numbers ≡ self.old.numbers }
+        ensures numbers { OnOk result (self.new.numbers ≡ self.old.numbers) }
     {
         match entities_of(alloc, instances) {
             Ok(mut more) => {
