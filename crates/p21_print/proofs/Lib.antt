@@ -7,3 +7,4 @@ pub mod Trees
 pub mod Sizes
 pub mod Listing
 pub mod Filing
+pub mod ShallowLemmas
