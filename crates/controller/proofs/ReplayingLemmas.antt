@@ -18,7 +18,7 @@ use Rattle.run_core.specs.PlainRun.{numbers_of, works, GivePaths}
 use Rattle.step_def.specs.declared.fault.DefFault.{DefFault}
 use Rattle.project_read.specs.Holds.{Project}
 use Rattle.project_read.specs.Reads.{HaveDefs}
-use Rattle.controller.specs.Run.{elements, tree_of_project, paths_in, IsRun}
+use Rattle.project_law.specs.Run.{elements, tree_of_project, paths_in, IsRun}
 use Rattle.controller.proofs.CommandLemmas.{no_test, tested}
 
 other : (m n : ℕ) → nat_eq n m ≡ false → (m == n) ≡ false

@@ -19,7 +19,7 @@ use Rattle.controller.specs.declared.status.Status.TheVariants.{Done, RunLimit, 
 use Rattle.controller.specs.Words.{help_line, version_line, is_line, IsReplay, IsPath, NamesProject, AreBadAt}
 use Rattle.controller.specs.Texts.{bad_words_line, help_text, version_text}
 use Rattle.controller.specs.Refusal.{refusal_line}
-use Rattle.controller.specs.Run.{IsRun}
+use Rattle.project_law.specs.Run.{IsRun}
 
 -- the file of this name holds the project, where it is told what it holds
 abbrev pub HoldsProject : (List ℕ → Option (List ℕ)) → List ℕ → Project → Type 0

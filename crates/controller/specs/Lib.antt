@@ -5,7 +5,6 @@ pub mod Meaning
 pub mod Texts
 pub mod Refusal
 pub mod Codes
-pub mod Run
 pub mod Outside
 pub mod Asked
 pub mod Kinds

@@ -16,7 +16,7 @@ use Rattle.controller.specs.declared.project_file.Unheld.{Unheld}
 use Rattle.controller.specs.declared.project_file.Unheld.TheVariants as unheld
 use Rattle.controller.specs.declared.status.Status.{Status}
 use Rattle.controller.specs.declared.status.Status.TheVariants.{WriteFault}
-use Rattle.controller.specs.Run.{IsRun}
+use Rattle.project_law.specs.Run.{IsRun}
 use Rattle.controller.specs.Words.{NamesProject}
 use Rattle.controller.specs.Asked.{IsStep, IsRight}
 use Rattle.controller.specs.Answer.{answer_status, answer_text}

@@ -3,7 +3,7 @@
 ghost use Rattle.std.specs.Prelude.{◌≡◌, ℕ, ◌≤◌, ◌<◌, ◌^◌, List, length, nat_eq, IfOk};
 ghost use Rattle.std.specs.List.{IsDistinct};
 ghost use Rattle.project_read.specs.Reads.{model_of, HaveDefs};
-ghost use Rattle.controller.specs.Run.{IsRun};
+ghost use Rattle.project_law.specs.Run.{IsRun};
 ghost use Rattle.controller.specs.ProjectFile.{OrStops, Replays};
 
 use crate::answer::{Answer, Stop};

@@ -3,14 +3,14 @@ use Rattle.std.proofs.Common.{◌≡◌, ℕ, ◌+◌, ◌<◌, ◌≤◌, Bool,
 use Rattle.std.specs.Option.{IfNone}
 use Rattle.std.proofs.Math.Seq.{drop-append-add}
 use Rattle.p21_lex.specs.declared.token.Token.{Token}
-use Rattle.p21_parse.specs.declared.source.Source.{Source}
+use Rattle.p21_parse.specs.declared.parser.Parser.{Parser}
 use Rattle.p21_parse.specs.declared.error.ReadErr.{ReadErr}
 use Rattle.p21_parse.specs.declared.names.Before.{Before}
 use Rattle.p21_parse.specs.Symbol.{Symbol, name, semicolon, symbols}
 use Rattle.p21_parse.specs.Numbers.{numbers_in}
 use Rattle.p21_parse.specs.Places.{start_of}
 use Rattle.p21_parse.specs.Refused.{file_numbers}
-use Rattle.p21_parse.specs.Source.{IsSource, from, Has, IsNotHead, HasNoName}
+use Rattle.p21_parse.specs.Parser.{IsParser, from, Has, IsNotHead, HasNoName}
 use Rattle.p21_parse.specs.Names.{before, IsBehind, IsOwn, HasNoOwn, AreFine, AreNumbers, AreOwn}
 use Rattle.p21_parse.specs.Text.{NamesRefuse}
 use Rattle.p21_parse.proofs.Naming.{more_numbers, unbehind, owned, nameless, unmarked, stands, passed, pushed, one_too_many, at_end}
@@ -20,10 +20,10 @@ abbrev pub nothing : List Token
 nothing = []
 
 -- a text with nothing before it
-pub alone : (s : Source) (b : Before) → IsSource s → b.numbers.now ≡ [] → b.is_marked ≡ false → IsBehind s s [] b
+pub alone : (s : Parser) (b : Before) → IsParser s → b.numbers.now ≡ [] → b.is_marked ≡ false → IsBehind s s [] b
 alone s b real none plain = record { real = real; bytes = refl; tokens = refl; numbers = sym none; marked = sym plain }
 
-module _ (s t : Source) (ts : List Token) (b : Before) (l : IsBehind s t ts b) where
+module _ (s t : Parser) (ts : List Token) (b : Before) (l : IsBehind s t ts b) where
   pub count_is : length s.tokens.now ≡ length ts + length t.tokens.now
   count_is = ap length l.tokens ∙ length-append ts t.tokens.now
 
@@ -75,54 +75,54 @@ module _ (s t : Source) (ts : List Token) (b : Before) (l : IsBehind s t ts b) w
 
 -- ---- the same of what a call answered
 
-module _ (t : Source) (b : Before) where
-  pub name_found : (at back : ℕ) (o : Option ℕ) → at ≡ back + 1 → Has t back semicolon → IfSome o (λ n. Has t at (name n)) → IfSome o (λ number. (s : Source) (ts : List Token) → IsBehind s t ts b → IsOwn s (length ts + at) number)
+module _ (t : Parser) (b : Before) where
+  pub name_found : (at back : ℕ) (o : Option ℕ) → at ≡ back + 1 → Has t back semicolon → IfSome o (λ n. Has t at (name n)) → IfSome o (λ number. (s : Parser) (ts : List Token) → IsBehind s t ts b → IsOwn s (length ts + at) number)
   name_found at back None is mark h = tt
   name_found at back (Some n) is mark h = λ s ts l. named s t ts b l at back n is mark h
 
-  pub name_none : (at : ℕ) (o : Option ℕ) → IfNone o (HasNoName (from t at)) → IfNone o ((s : Source) (ts : List Token) → IsBehind s t ts b → HasNoOwn s (length ts + at))
+  pub name_none : (at : ℕ) (o : Option ℕ) → IfNone o (HasNoName (from t at)) → IfNone o ((s : Parser) (ts : List Token) → IsBehind s t ts b → HasNoOwn s (length ts + at))
   name_none at None h = λ s ts l. no_name s t ts b l at h
   name_none at (Some n) h = tt
 
-  pub first_found : (o : Option ℕ) → b.is_marked ≡ true → IfSome o (λ n. Has t 0 (name n)) → IfSome o (λ number. (s : Source) (ts : List Token) → IsBehind s t ts b → IsOwn s (length ts) number)
+  pub first_found : (o : Option ℕ) → b.is_marked ≡ true → IfSome o (λ n. Has t 0 (name n)) → IfSome o (λ number. (s : Parser) (ts : List Token) → IsBehind s t ts b → IsOwn s (length ts) number)
   first_found None is h = tt
   first_found (Some n) is h = λ s ts l. first_named s t ts b l n is h
 
-  pub first_without : (o : Option ℕ) → IfNone o (HasNoName (from t 0)) → IfNone o ((s : Source) (ts : List Token) → IsBehind s t ts b → HasNoOwn s (length ts))
+  pub first_without : (o : Option ℕ) → IfNone o (HasNoName (from t 0)) → IfNone o ((s : Parser) (ts : List Token) → IsBehind s t ts b → HasNoOwn s (length ts))
   first_without None h = λ s ts l. first_none s t ts b l h
   first_without (Some n) h = tt
 
-  pub first_unmarked : b.is_marked ≡ false → (s : Source) (ts : List Token) → IsBehind s t ts b → HasNoOwn s (length ts)
+  pub first_unmarked : b.is_marked ≡ false → (s : Parser) (ts : List Token) → IsBehind s t ts b → HasNoOwn s (length ts)
   first_unmarked is = λ s ts l. first_plain s t ts b l is
 
   -- where the first token is looked at
-  pub at_first : (at : ℕ) (o : Option ℕ) → at ≡ 0 → IfSome o (λ number. (s : Source) (ts : List Token) → IsBehind s t ts b → IsOwn s (length ts) number)
-      → IfSome o (λ number. (s : Source) (ts : List Token) → IsBehind s t ts b → IsOwn s (length ts + at) number)
+  pub at_first : (at : ℕ) (o : Option ℕ) → at ≡ 0 → IfSome o (λ number. (s : Parser) (ts : List Token) → IsBehind s t ts b → IsOwn s (length ts) number)
+      → IfSome o (λ number. (s : Parser) (ts : List Token) → IsBehind s t ts b → IsOwn s (length ts + at) number)
   at_first at None is h = tt
   at_first at (Some n) is h = λ s ts l. let here : length ts ≡ length ts + at = omega (arith, is) in subst (λ (k : ℕ). IsOwn s k n) here (h s ts l)
 
-  pub at_first_none : (at : ℕ) (o : Option ℕ) → at ≡ 0 → IfNone o ((s : Source) (ts : List Token) → IsBehind s t ts b → HasNoOwn s (length ts)) → IfNone o ((s : Source) (ts : List Token) → IsBehind s t ts b → HasNoOwn s (length ts + at))
+  pub at_first_none : (at : ℕ) (o : Option ℕ) → at ≡ 0 → IfNone o ((s : Parser) (ts : List Token) → IsBehind s t ts b → HasNoOwn s (length ts)) → IfNone o ((s : Parser) (ts : List Token) → IsBehind s t ts b → HasNoOwn s (length ts + at))
   at_first_none at None is h = λ s ts l. let here : length ts ≡ length ts + at = omega (arith, is) in subst (λ (k : ℕ). HasNoOwn s k) here (h s ts l)
   at_first_none at (Some n) is h = tt
 
 -- ---- the numbers so far
 
-pub passed_on : (s : Source) (n at : ℕ) (numbers : List ℕ) → AreNumbers s (n + at) numbers → HasNoOwn s (n + at) → AreNumbers s (n + (at + 1)) numbers
+pub passed_on : (s : Parser) (n at : ℕ) (numbers : List ℕ) → AreNumbers s (n + at) numbers → HasNoOwn s (n + at) → AreNumbers s (n + (at + 1)) numbers
 passed_on s n at numbers l none = subst (λ (k : ℕ). AreNumbers s k numbers) (omega arith) (passed s (n + at) numbers l none)
 
-pub pushed_on : (s : Source) (n at number : ℕ) (numbers new : List ℕ) → AreNumbers s (n + at) numbers → IsOwn s (n + at) number → length numbers < 200000 → new ≡ numbers ++ number ∷ [] → AreNumbers s (n + (at + 1)) new
+pub pushed_on : (s : Parser) (n at number : ℕ) (numbers new : List ℕ) → AreNumbers s (n + at) numbers → IsOwn s (n + at) number → length numbers < 200000 → new ≡ numbers ++ number ∷ [] → AreNumbers s (n + (at + 1)) new
 pushed_on s n at number numbers new l own lt is = subst (λ (k : ℕ). AreNumbers s k new) (omega arith) (pushed s (n + at) number numbers new l own lt is)
 
-pub too_many_on : (s : Source) (n end at number : ℕ) (numbers : List ℕ) → at < end → AreNumbers s (n + at) numbers → IsOwn s (n + at) number → 200000 ≤ length numbers → AreOwn s (n + end) numbers (Some (n + at))
+pub too_many_on : (s : Parser) (n end at number : ℕ) (numbers : List ℕ) → at < end → AreNumbers s (n + at) numbers → IsOwn s (n + at) number → 200000 ≤ length numbers → AreOwn s (n + end) numbers (Some (n + at))
 too_many_on s n end at number numbers lt l own many = one_too_many s (n + end) (n + at) number numbers (omega (arith, lt)) l own many
 
-pub end_on : (s : Source) (n end at : ℕ) (numbers : List ℕ) → at ≡ end → AreNumbers s (n + at) numbers → AreOwn s (n + end) numbers None
+pub end_on : (s : Parser) (n end at : ℕ) (numbers : List ℕ) → at ≡ end → AreNumbers s (n + at) numbers → AreOwn s (n + end) numbers None
 end_on s n end at numbers is l = at_end s (n + end) (n + at) numbers (omega (arith, is)) l
 
 -- ---- a text with nothing before it
 
-pub start_is : (s : Source) (at : ℕ) → AreFine (before s (length nothing + at)) → AreFine (before s at)
+pub start_is : (s : Parser) (at : ℕ) → AreFine (before s (length nothing + at)) → AreFine (before s at)
 start_is s at fine = subst (λ (k : ℕ). AreFine (before s k)) (omega arith) fine
 
-pub start_refuses : (s : Source) (at : ℕ) (e : ReadErr) → NamesRefuse s (length nothing + at) e → NamesRefuse s at e
+pub start_refuses : (s : Parser) (at : ℕ) (e : ReadErr) → NamesRefuse s (length nothing + at) e → NamesRefuse s at e
 start_refuses s at e refuses = subst (λ (k : ℕ). NamesRefuse s k e) (omega arith) refuses

@@ -10,7 +10,7 @@ use Rattle.p21_parse.specs.Symbol.{Symbol, keyword, opening, closing, semicolon}
 use Rattle.p21_parse.specs.Spell.{spell, spell_list, spell_more, spell_all, spell_part, spell_parts, spell_entry, spell_instance, spell_file}
 use Rattle.p21_parse.specs.Grammar.{IsParameter, AreParameters, IsPart, HasParts, IsInstance, IsNamed, IsText, AreTexts, IsTextList, IsSchema, IsEntry, IsHead, IsExchange}
 use Rattle.p21_parse.specs.Nesting.{nesting, nestings, greatest, part_nesting, instance_nesting, exchange_nesting}
-use Rattle.p21_parse.specs.Source.{spell_start}
+use Rattle.p21_parse.specs.Parser.{spell_start}
 use Rattle.p21_parse.specs.Machine.{Item, fixed, parameter, parameter_list, more_parameters, schema, more_schemas, part, more_parts, body, instances, entries, Outcome, done, deep, goes_on, run, entry_or, counted, named, data_word, endsec, end_iso, end_items, data_items, schema_items, file_items}
 
 below : (most n : ℕ) → n ≤ most → nat_lt most n ≡ false

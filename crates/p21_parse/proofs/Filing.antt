@@ -2,19 +2,19 @@
 use Rattle.std.proofs.Common.{◌≡◌, ℕ, ◌<◌, ◌≤◌, List, [], ◌∷◌, ◌++◌, length, refl, sym, ap, subst, ◌∙◌, arith, inl, inr}
 use Rattle.std.specs.List.{AllByRecursion}
 use Rattle.std.proofs.lemmas.List.{drop_all}
-use Rattle.p21_parse.specs.declared.source.Source.{Source}
-use Rattle.p21_parse.specs.declared.source.Stop.{Stop}
-use Rattle.p21_parse.specs.declared.source.Stop.TheVariants.{Syntax, TooDeep, NoMemory}
+use Rattle.p21_parse.specs.declared.parser.Parser.{Parser}
+use Rattle.p21_parse.specs.declared.parser.Stop.{Stop}
+use Rattle.p21_parse.specs.declared.parser.Stop.TheVariants.{Syntax, TooDeep, NoMemory}
 use Rattle.p21_parse.specs.Tree.{PartTree, InstanceTree, ExchangeTree}
 use Rattle.p21_parse.specs.Symbol.{Symbol, value, name, keyword, dashed, opening, closing, comma, semicolon, equals, symbols}
 use Rattle.p21_parse.specs.Spell.{spell_entry, spell_instance, spell_all}
 use Rattle.p21_parse.specs.Grammar.{IsHead, IsInstance}
 use Rattle.p21_parse.specs.Nesting.{part_nesting, instance_nesting, greatest}
 use Rattle.p21_parse.specs.Machine.{Item, fixed, instances, iso, header, data_word, endsec, end_iso, file_items, schema_items, data_items, end_items, Outcome, done, run}
-use Rattle.p21_parse.specs.Source.{from, Stops, IsRead, IsRefused, AreRead, AreRefused, HasNoName, phrase, head_items, start_items, last_items, spell_start, spell_last, RestRead, FileRead, FileStops}
+use Rattle.p21_parse.specs.Parser.{from, Stops, IsRead, IsRefused, AreRead, AreRefused, HasNoName, phrase, head_items, start_items, last_items, spell_start, spell_last, RestRead, FileRead, FileStops}
 use Rattle.p21_parse.proofs.Moves.{both, first_refused, second_refused}
 
-module _ (s : Source) where
+module _ (s : Parser) where
   abbrev start_1 : List Item
   start_1 = phrase header ++ (head_items ++ phrase data_word)
 

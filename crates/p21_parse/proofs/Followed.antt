@@ -4,9 +4,9 @@ use Rattle.std.specs.List.{AllByRecursion, concat}
 use Rattle.p21_lex.specs.declared.token.Token.{Token}
 use Rattle.p21_lex.specs.Reading.{Reads, IsToken}
 use Rattle.p21_parse.specs.declared.error.ReadErr.{ReadErr}
-use Rattle.p21_parse.specs.declared.source.Source.{Source}
-use Rattle.p21_parse.specs.declared.source.Stop.{Stop}
-use Rattle.p21_parse.specs.declared.source.Stop.TheVariants.{Syntax, TooDeep, NoMemory}
+use Rattle.p21_parse.specs.declared.parser.Parser.{Parser}
+use Rattle.p21_parse.specs.declared.parser.Stop.{Stop}
+use Rattle.p21_parse.specs.declared.parser.Stop.TheVariants.{Syntax, TooDeep, NoMemory}
 use Rattle.p21_parse.specs.Tree.{InstanceTree, ExchangeTree}
 use Rattle.p21_parse.specs.Symbol.{name, semicolon}
 use Rattle.p21_parse.specs.Spell.{spell_all, spell_instance}
@@ -16,7 +16,7 @@ use Rattle.p21_parse.specs.Text.{IsText}
 use Rattle.p21_parse.specs.Places.{syntax, too_deep, too_many, start_of, place_of}
 use Rattle.p21_parse.specs.Refused.{RefusedFrom}
 use Rattle.p21_parse.specs.Machine.{fixed, behind_name, instances, run}
-use Rattle.p21_parse.specs.Source.{IsSource, from, Has, IsRefused}
+use Rattle.p21_parse.specs.Parser.{IsParser, from, Has, IsRefused}
 use Rattle.p21_parse.specs.Following.{AreRefusedFrom, IsFaultOf}
 use Rattle.p21_parse.proofs.Moves.{left}
 use Rattle.p21_parse.proofs.Named.{symbols_real}
@@ -43,7 +43,7 @@ tokens_few bytes (t ∷ tokens) at rest h r =
 pub text_spelled : (bytes : List ℕ) (x : ExchangeTree) → IsText bytes x → IsSpelled x
 text_spelled bytes x t = subst (AllByRecursion IsSymbol) t.spells (symbols_real bytes t.tokens t.inside)
 
-module _ (s : Source) (at most : ℕ) where
+module _ (s : Parser) (at most : ℕ) where
   place_is : (k : ℕ) → k ≤ length s.tokens.now → place_of s.bytes.now s.tokens.now (length s.tokens.now - k) ≡ start_of s.bytes.now (drop k s.tokens.now)
   place_is k le = let back : length s.tokens.now - (length s.tokens.now - k) ≡ k = omega arith in ap (λ (k : ℕ). start_of s.bytes.now (drop k s.tokens.now)) back
 
@@ -54,7 +54,7 @@ module _ (s : Source) (at most : ℕ) where
     goes : run 32 0 (instances ∷ []) (from s at) ≡ run 32 0 (instances ∷ []) (name number ∷ from s (rest + 1))
     goes = l.goes [] ∙ ap (run 32 0 (instances ∷ [])) has.first
 
-    pub follow_many : (place : ℕ) → IsSource s → length items ≡ most → place ≡ start_of s.bytes.now (drop rest s.tokens.now) → RefusedFrom s.bytes.now s.tokens.now at most (too_many place)
+    pub follow_many : (place : ℕ) → IsParser s → length items ≡ most → place ≡ start_of s.bytes.now (drop rest s.tokens.now) → RefusedFrom s.bytes.now s.tokens.now at most (too_many place)
     follow_many place real full is =
         let long : length (name number ∷ from s (rest + 1)) ≡ length s.tokens.now - rest = ap length (sym has.first) ∙ left s rest in
         let here : place_of s.bytes.now s.tokens.now (length (name number ∷ from s (rest + 1))) ≡ place

@@ -8,7 +8,7 @@ use Rattle.p21_parse.specs.Spell.{spell_all, spell_instance, spell_entry}
 use Rattle.p21_parse.specs.Grammar.{IsInstance, IsExchange}
 use Rattle.p21_parse.specs.Nesting.{greatest, instance_nesting, exchange_nesting}
 use Rattle.p21_parse.specs.Machine.{iso, header, endsec, data_word}
-use Rattle.p21_parse.specs.Source.{spell_start}
+use Rattle.p21_parse.specs.Parser.{spell_start}
 use Rattle.p21_parse.specs.Front.{with_items}
 use Rattle.p21_parse.proofs.Appends.{longer_part, longer_instances}
 

@@ -4,9 +4,9 @@ use Rattle.std.specs.Str.{bytes_eq}
 use Rattle.std.specs.List.{AllByRecursion}
 use Rattle.std.proofs.lemmas.List.{append-nil}
 use Rattle.std.proofs.lemmas.Slice.Eq.{bytes_eq-Decides}
-use Rattle.p21_parse.specs.declared.source.Source.{Source}
-use Rattle.p21_parse.specs.declared.source.Stop.{Stop}
-use Rattle.p21_parse.specs.declared.source.Stop.TheVariants.{Syntax}
+use Rattle.p21_parse.specs.declared.parser.Parser.{Parser}
+use Rattle.p21_parse.specs.declared.parser.Stop.{Stop}
+use Rattle.p21_parse.specs.declared.parser.Stop.TheVariants.{Syntax}
 use Rattle.p21_parse.specs.Tree.{Tree, one, list, Trees, none, first, trees, count, with_last, PartTree}
 use Rattle.p21_parse.specs.Symbol.{Symbol, value, name, keyword, dashed, opening, closing, comma, semicolon, equals, word, has_hyphen}
 use Rattle.p21_parse.specs.Spell.{spell, spell_list, spell_entry, spell_all}
@@ -14,7 +14,7 @@ use Rattle.p21_parse.specs.Grammar.{IsParameter, AreParameters, IsText, AreTexts
 use Rattle.p21_parse.specs.Nesting.{nesting, nestings, part_nesting, greatest}
 use Rattle.p21_parse.specs.Machine.{Item, fixed, parameter, more_parameters, schema, more_schemas, counted, named, entries, entry_or_end, endsec, same, on, after, open_in, run}
 use Rattle.p21_lex.specs.declared.token.TokenKind.TheVariants as kinds
-use Rattle.p21_parse.specs.Source.{from, Stops, Has, IsRead, IsRefused, IsNotHead, IsOther, HasNoText, HasNoKeyword, AreNames, schema_entry, IsEnd, IsNoEnd, EntryRead, EntriesRefused, EntriesRead, head_items}
+use Rattle.p21_parse.specs.Parser.{from, Stops, Has, IsRead, IsRefused, IsNotHead, IsOther, HasNoText, HasNoKeyword, AreNames, schema_entry, IsEnd, IsNoEnd, EntryRead, EntriesRefused, EntriesRead, head_items}
 use Rattle.p21_parse.proofs.ListLemmas.{trees-push}
 use Rattle.p21_parse.proofs.Moves.{Sticks, step, both, took, first_refused, second_refused, opened_refused, stopped, respelled}
 use Rattle.p21_parse.proofs.Listing.{further, further_more, further_closed, are_more, nests_more}
@@ -43,7 +43,7 @@ open_word i n text = by (has_hyphen text)
     by true = refl
     by false = refl
 
-module _ (s : Source) where
+module _ (s : Parser) where
   pub word_took : (n at : ℕ) (text : List ℕ) → n ≤ 32 → Has s at (word text) → IsRead s n n (fixed (word text) ∷ []) at (at + 1) (λ r. word text ∷ r)
   word_took n at text le has = took s (fixed (word text)) n n at (word text) has (ap (λ (b : Bool). on b []) (same_word text)) (open_word (word text) n text) le
 
@@ -55,7 +55,7 @@ module _ (s : Source) where
 -- ---- parameters one after the other
 
 -- The first parameters of whole items were read, and others are left.
-pub record Row (s : Source) (n at rest : ℕ) (whole left : List Item) (params : Trees) : Type 0 where
+pub record Row (s : Parser) (n at rest : ℕ) (whole left : List Item) (params : Trees) : Type 0 where
   pub start : Tree
   pub others : List Tree
   pub are_these : params ≡ first start (trees others)
@@ -64,7 +64,7 @@ pub record Row (s : Source) (n at rest : ℕ) (whole left : List Item) (params :
   pub spells : from s at ≡ spell start (further others (from s rest))
   pub goes : (stack : List Item) → run 32 n (whole ++ stack) (from s at) ≡ run 32 n (left ++ stack) (from s rest)
 
-module _ (s : Source) (n at : ℕ) where
+module _ (s : Parser) (n at : ℕ) where
   pub row_begun : (rest : ℕ) (i : Item) (left : List Item) (t : Tree) (params : Trees) → params ≡ first t none → IsRead s n n (i ∷ []) at rest (spell t) → Row s n at rest (i ∷ left) left params
   row_begun rest i left t params is_one read = record {
     start = t;
@@ -107,13 +107,13 @@ count_more none t = refl
 count_more (first u ts) t = let more = count_more ts t in omega arith
 
 -- of so many parameters more than one some are left
-pub record InCount (s : Source) (at rest more left : ℕ) (params : Trees) : Type 0 where
+pub record InCount (s : Parser) (at rest more left : ℕ) (params : Trees) : Type 0 where
   pub row : Row s 1 at rest (parameter ∷ counted more []) (counted left []) params
   pub count : count params + left ≡ more + 1
   pub are : AreParameters params
   pub nests : 1 + nestings params ≤ 32
 
-module _ (s : Source) (at more : ℕ) where
+module _ (s : Parser) (at more : ℕ) where
   pub count_begun : (rest : ℕ) (t : Tree) (params : Trees) → params ≡ first t none → IsRead s 1 1 (parameter ∷ []) at rest (spell t) → IsParameter t × (1 + nesting t ≤ 32) → InCount s at rest more more params
   count_begun rest t params is_one read is = record {
     row = row_begun s 1 at rest parameter (counted more []) t params is_one read;
@@ -171,7 +171,7 @@ named_is : (text : List ℕ) (more : ℕ) → word text ≡ keyword text → nam
 unfolding steps_of
 named_is text more plain = ap (λ (is : List Item). fixed (keyword text) ∷ fixed opening ∷ parameter ∷ is) (counted_behind more (fixed semicolon ∷ [])) ∙ ap (λ (w : Symbol). fixed w ∷ fixed opening ∷ parameter ∷ (counted more [] ++ (fixed semicolon ∷ []))) (sym plain)
 
-module _ (s : Source) (at more : ℕ) (text : List ℕ) (plain : word text ≡ keyword text) where
+module _ (s : Parser) (at more : ℕ) (text : List ℕ) (plain : word text ≡ keyword text) where
   as_named : (e : Stop) → IsRefused s 0 (steps_of text more) at e → IsRefused s 0 (named text more []) at e
   as_named e refused = subst (λ (is : List Item). IsRefused s 0 is at e) (sym (named_is text more plain)) refused
 
@@ -223,11 +223,11 @@ names_more (first u ts) t are is = (are.0, by ts are.1)
     by (first u ts) are = (are.0, by ts are.1)
 
 -- some names of schemas were read
-pub record InNames (s : Source) (at rest : ℕ) (params : Trees) : Type 0 where
+pub record InNames (s : Parser) (at rest : ℕ) (params : Trees) : Type 0 where
   pub row : Row s 2 at rest (schema ∷ more_schemas ∷ []) (more_schemas ∷ []) params
   pub are : AreNames params
 
-module _ (s : Source) (at : ℕ) where
+module _ (s : Parser) (at : ℕ) where
   pub names_begun : (rest : ℕ) (t : Tree) (params : Trees) → params ≡ first t none → IsRead s 2 2 (schema ∷ []) at rest (spell t) → IsText t → InNames s at rest params
   names_begun rest t params is_one read is = record { row = row_begun s 2 at rest schema (more_schemas ∷ []) t params is_one read; are = rw is_one (is, tt) }
 
@@ -257,7 +257,7 @@ module _ (s : Source) (at : ℕ) where
   names_read rest params l has = row_closed s 2 at 1 rest (schema ∷ more_schemas ∷ []) (more_schemas ∷ []) params l.row has (λ stack. step s more_schemas 2 1 rest closing [] has refl refl (omega arith) stack)
 
 -- one text
-pub name_read : (s : Source) (at : ℕ) (text : List ℕ) → Has s at (value kinds.Text text) → IsRead s 2 2 (schema ∷ []) at (at + 1) (λ r. value kinds.Text text ∷ r)
+pub name_read : (s : Parser) (at : ℕ) (text : List ℕ) → Has s at (value kinds.Text text) → IsRead s 2 2 (schema ∷ []) at (at + 1) (λ r. value kinds.Text text ∷ r)
 name_read s at text has = took s schema 2 2 at (value kinds.Text text) has refl refl (omega arith)
 
 no_text_sticks : (ss : List Symbol) → HasNoText ss → Sticks schema ss
@@ -265,7 +265,7 @@ no_text_sticks [] h = tt
 no_text_sticks (value kinds.Text text ∷ ss) h = absurd h
 no_text_sticks (m ∷ ss) h = refl
 
-pub no_text : (s : Source) (at : ℕ) → at ≤ length s.tokens.now → HasNoText (from s at) → IsRefused s 2 (schema ∷ []) at (Syntax at)
+pub no_text : (s : Parser) (at : ℕ) → at ≤ length s.tokens.now → HasNoText (from s at) → IsRefused s 2 (schema ∷ []) at (Syntax at)
 no_text s at le h = stopped s schema 2 at le (no_text_sticks (from s at) h)
 
 -- the items of that entry, in the order in which they are read
@@ -276,7 +276,7 @@ schema_same : schema_steps ≡ schema_entry
 unfolding schema_steps
 schema_same = refl
 
-module _ (s : Source) (at : ℕ) where
+module _ (s : Parser) (at : ℕ) where
   as_schema : (e : Stop) → IsRefused s 0 schema_steps at e → IsRefused s 0 schema_entry at e
   as_schema e refused = subst (λ (is : List Item). IsRefused s 0 is at e) schema_same refused
 
@@ -399,14 +399,14 @@ pub other_no_end : (ss : List Symbol) → IsOther endsec ss → IsNoEnd ss
 other_no_end [] h = tt
 other_no_end (m ∷ ss) h = λ e other. let both_ways : true ≡ false = sym e ∙ h in absurd cc
 
-pub begun_no_end : (s : Source) (at : ℕ) → Has s at endsec → Has s (at + 1) opening → IsNoEnd (from s at)
+pub begun_no_end : (s : Parser) (at : ℕ) → Has s at endsec → Has s (at + 1) opening → IsNoEnd (from s at)
 begun_no_end s at has has_open = subst IsNoEnd (sym has.first) (λ e other. subst (IsNotHead opening) has_open.first other refl)
 
 -- the items of an entry behind its keyword
 abbrev entry_rest : List Item
 entry_rest = (fixed opening ∷ []) ++ ((parameter ∷ more_parameters ∷ []) ++ (fixed semicolon ∷ []))
 
-module _ (s : Source) (at : ℕ) where
+module _ (s : Parser) (at : ℕ) where
   goes_in : (w : List ℕ) → Has s at (keyword w) → IsNoEnd (from s at) → (stack : List Item) → run 32 0 (entries ∷ stack) (from s at) ≡ run 32 0 (entry_rest ++ (entries ∷ stack)) (from s (at + 1))
   goes_in w has h stack = ap (run 32 0 (entries ∷ stack)) has.first ∙ entry_alike w (from s (at + 1)) stack (subst IsNoEnd has.first h)
 
@@ -444,7 +444,7 @@ module _ (s : Source) (at : ℕ) where
       })
 
 -- no keyword, so no entry
-pub entry_missing : (s : Source) (at : ℕ) → at ≤ length s.tokens.now → HasNoKeyword (from s at) → EntriesRefused s at (Syntax at)
+pub entry_missing : (s : Parser) (at : ℕ) → at ≤ length s.tokens.now → HasNoKeyword (from s at) → EntriesRefused s at (Syntax at)
 entry_missing s at le h = stopped s entries 0 at le (by (from s at) h)
   where
     by : (ss : List Symbol) → HasNoKeyword ss → Sticks entries ss
@@ -453,7 +453,7 @@ entry_missing s at le h = stopped s entries 0 at le (by (from s at) h)
     by (m ∷ ss) h = refl
 
 -- some entries were read
-pub record Entered (s : Source) (at rest : ℕ) (ps : List PartTree) : Type 0 where
+pub record Entered (s : Parser) (at rest : ℕ) (ps : List PartTree) : Type 0 where
   pub onward : at ≤ rest
   pub inside : rest ≤ length s.tokens.now
   pub spells : from s at ≡ spell_all spell_entry ps (from s rest)
@@ -474,10 +474,10 @@ end_alike (semicolon ∷ ss) stack h = refl
 end_alike (equals ∷ ss) stack h = refl
 
 -- behind those read before
-abbrev pub Behind : Source → ℕ → ℕ → List PartTree → List PartTree → Type 0
+abbrev pub Behind : Parser → ℕ → ℕ → List PartTree → List PartTree → Type 0
 Behind s at rest before whole = (ps : List PartTree) × (whole ≡ before ++ ps) × Entered s at rest ps
 
-module _ (s : Source) (at : ℕ) where
+module _ (s : Parser) (at : ℕ) where
   pub none_entered : (before : List PartTree) → at ≤ length s.tokens.now → Behind s at at before before
   none_entered before le = ([], sym (append-nil before), record { onward = omega arith; inside = le; spells = refl; goes = λ stack. refl; are = tt; nests = omega arith })
 
@@ -529,7 +529,7 @@ module _ (s : Source) (at : ℕ) where
 greatest_of_three : {X : Type 0} (f : X → ℕ) (a b c : X) (xs : List X) → f a ≤ 32 → f b ≤ 32 → f c ≤ 32 → greatest f xs ≤ 32 → greatest f (a ∷ b ∷ c ∷ xs) ≤ 32
 greatest_of_three f a b c xs p q r rest = omega arith
 
-module _ (s : Source) (at : ℕ) where
+module _ (s : Parser) (at : ℕ) where
   abbrev tail_1 : List Item
   tail_1 = named (codes "FILE_NAME") 6 [] ++ (schema_entry ++ (entries ∷ []))
 

@@ -5,7 +5,7 @@ use Rattle.p21_lex.specs.declared.token.TokenKind.{TokenKind}
 use Rattle.p21_lex.specs.declared.token.TokenKind.TheVariants.{Word, Open, Close, Comma, Semicolon, Equals}
 use Rattle.p21_parse.specs.Symbol.{Symbol, keyword, dashed, opening, closing, comma, semicolon, equals, symbol, has_hyphen}
 use Rattle.p21_parse.specs.Machine.{fixed, on, same}
-use Rattle.p21_parse.specs.Source.{IsMark, IsNotHead}
+use Rattle.p21_parse.specs.Parser.{IsMark, IsNotHead}
 use Rattle.p21_parse.proofs.Moves.{Sticks}
 
 -- whether a symbol is a word

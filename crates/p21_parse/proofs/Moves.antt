@@ -2,17 +2,17 @@
 use Rattle.std.proofs.Common.{◌≡◌, ℕ, ◌+◌, ◌-◌, ◌<◌, ◌≤◌, true, false, List, [], ◌∷◌, ◌++◌, length, drop, Option, Some, None, refl, sym, ap, subst, ◌∙◌, append_assoc, arith, nat_lt}
 use Rattle.std.proofs.lemmas.Bool.Decides.{nat_tests}
 use Rattle.std.proofs.lemmas.List.{length-map, length-drop}
-use Rattle.p21_parse.specs.declared.source.Source.{Source}
-use Rattle.p21_parse.specs.declared.source.Stop.{Stop}
-use Rattle.p21_parse.specs.declared.source.Stop.TheVariants.{Syntax, TooDeep}
+use Rattle.p21_parse.specs.declared.parser.Parser.{Parser}
+use Rattle.p21_parse.specs.declared.parser.Stop.{Stop}
+use Rattle.p21_parse.specs.declared.parser.Stop.TheVariants.{Syntax, TooDeep}
 use Rattle.p21_parse.specs.Symbol.{Symbol, symbol_of}
 use Rattle.p21_parse.specs.Machine.{Item, stuck, deep, after, open_in, goes_on, run}
-use Rattle.p21_parse.specs.Source.{from, Stops, Has, IsRead, IsRefused}
+use Rattle.p21_parse.specs.Parser.{from, Stops, Has, IsRead, IsRefused}
 
 pub fine : (n : ℕ) → n ≤ 32 → nat_lt 32 n ≡ false
 fine n le = grind (arith, nat_tests)
 
-pub left : (s : Source) (at : ℕ) → length (from s at) ≡ length s.tokens.now - at
+pub left : (s : Parser) (at : ℕ) → length (from s at) ≡ length s.tokens.now - at
 left s at = length-map (drop at s.tokens.now) (symbol_of s.bytes.now) ∙ length-drop at s.tokens.now
 
 -- the item does not begin so
@@ -24,7 +24,7 @@ pub sticks : (i : Item) (n : ℕ) (stack : List Item) (ss : List Symbol) → Sti
 sticks i n stack [] h = refl
 sticks i n stack (s ∷ ss) h = ap (λ (o : Option (List Item)). goes_on 32 o (open_in i n s) (length (s ∷ ss)) (λ items. run 32 (open_in i n s) (items ++ stack) ss)) h
 
-module _ (s : Source) where
+module _ (s : Parser) where
   -- one step of the machine
   pub step : (i : Item) (n k at : ℕ) (m : Symbol) (rest : List Item) → Has s at m → after i m ≡ Some rest → open_in i n m ≡ k → k ≤ 32 → (stack : List Item) → run 32 n (i ∷ stack) (from s at) ≡ run 32 k (rest ++ stack) (from s (at + 1))
   step i n k at m rest has begins opens le stack =

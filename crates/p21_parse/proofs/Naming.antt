@@ -7,12 +7,12 @@ use Rattle.p21_lex.specs.declared.token.TokenKind.TheVariants.{Int}
 use Rattle.std.proofs.lemmas.List.{take-append-drop, drop-map, take_all, take-append-le, append-nil, take_more, length-take}
 use Rattle.std.proofs.Math.Seq.{take-append_seam, get_or-append_seam}
 use Rattle.std.proofs.Math.ListN.{get_or-append}
-use Rattle.p21_parse.specs.declared.source.Source.{Source}
+use Rattle.p21_parse.specs.declared.parser.Parser.{Parser}
 use Rattle.p21_parse.specs.declared.names.NameFault.TheVariants.{TooMany, Duplicate}
 use Rattle.p21_parse.specs.Symbol.{Symbol, value, name, keyword, dashed, opening, closing, comma, semicolon, equals, symbol_of, symbols}
 use Rattle.p21_parse.specs.Numbers.{is_semicolon, numbers_in, is_behind}
 use Rattle.p21_parse.specs.Refused.{file_numbers}
-use Rattle.p21_parse.specs.Source.{from, Has, IsNotHead, HasNoName}
+use Rattle.p21_parse.specs.Parser.{from, Has, IsNotHead, HasNoName}
 use Rattle.p21_parse.specs.Names.{before, IsOwn, HasNoOwn, AreFine, NamesAre, AreNumbers, AreOwn, IsFirstRepeat}
 use Rattle.p21_parse.proofs.Moves.{left}
 use Rattle.p21_parse.proofs.Owned.{numbers_append}
@@ -21,7 +21,7 @@ behind_last : (b : Bool) (ss : List Symbol) (m : Symbol) → is_behind b (ss ++ 
 behind_last b [] m = refl
 behind_last b (s ∷ ss) m = behind_last (is_semicolon s) ss m
 
-module _ (s : Source) where
+module _ (s : Parser) where
   -- what stands before a token, and from it on
   pub parted : (at : ℕ) → before s at ++ from s at ≡ from s 0
   parted at = ap (λ (ss : List Symbol). before s at ++ ss) (sym (drop-map (symbol_of s.bytes.now) at s.tokens.now)) ∙ take-append-drop at (from s 0)
@@ -112,13 +112,13 @@ module _ (s : Source) where
           more_numbers at there.0 there.1 ∙ ap (λ (c : Bool). file_numbers (before s at) ++ numbers_in c (there.0 ∷ [])) (b some) ∙ append-nil (file_numbers (before s at))
 
 -- what a token's symbol is
-pub stands : (s : Source) (at : ℕ) → at < length s.tokens.now → (m : Symbol) × Has s at m
+pub stands : (s : Parser) (at : ℕ) → at < length s.tokens.now → (m : Symbol) × Has s at m
 stands s at lt =
     let t = get_or s.tokens.now at (record { kind = Int; start = 0; end = 0 }) in
     let e : drop at s.tokens.now ≡ t ∷ drop (at + 1) s.tokens.now = rw add-one (drop-cons s.tokens.now at (record { kind = Int; start = 0; end = 0 }) lt) in
     (symbol_of s.bytes.now t, record { within = lt; first = ap (symbols s.bytes.now) e })
 
-pub other_behind : (s : Source) (at back : ℕ) → at ≡ back + 1 → IsNotHead semicolon (from s back) → at < length s.tokens.now → is_behind false (before s at) ≡ false
+pub other_behind : (s : Parser) (at back : ℕ) → at ≡ back + 1 → IsNotHead semicolon (from s back) → at < length s.tokens.now → is_behind false (before s at) ≡ false
 other_behind s at back is h lt =
     let there = stands s back (omega arith) in
     let other : there.0 ≡ semicolon → ⊥ = subst (IsNotHead semicolon) there.1.first h in
@@ -136,52 +136,52 @@ other_behind s at back is h lt =
     by equals other = refl
 
 -- no instance's own name at the first token
-pub first_token : (s : Source) (at : ℕ) → at ≡ 0 → HasNoOwn s at
+pub first_token : (s : Parser) (at : ℕ) → at ≡ 0 → HasNoOwn s at
 first_token s at is = unbehind s at (λ lt. ap (λ (k : ℕ). is_behind false (before s k)) is) (stands s at)
 
 -- none where no semicolon stands before
-pub unmarked : (s : Source) (at back : ℕ) → at ≡ back + 1 → IsNotHead semicolon (from s back) → HasNoOwn s at
+pub unmarked : (s : Parser) (at back : ℕ) → at ≡ back + 1 → IsNotHead semicolon (from s back) → HasNoOwn s at
 unmarked s at back is h = unbehind s at (λ lt. other_behind s at back is h lt) (stands s at)
 
-pub own_found : (s : Source) (at back : ℕ) (o : Option ℕ) → at ≡ back + 1 → Has s back semicolon → IfSome o (λ n. Has s at (name n)) → IfSome o (IsOwn s at)
+pub own_found : (s : Parser) (at back : ℕ) (o : Option ℕ) → at ≡ back + 1 → Has s back semicolon → IfSome o (λ n. Has s at (name n)) → IfSome o (IsOwn s at)
 own_found s at back None is mark h = tt
 own_found s at back (Some n) is mark h = owned s at back n is mark h
 
-pub own_none : (s : Source) (at : ℕ) (o : Option ℕ) → IfNone o (HasNoName (from s at)) → IfNone o (HasNoOwn s at)
+pub own_none : (s : Parser) (at : ℕ) (o : Option ℕ) → IfNone o (HasNoName (from s at)) → IfNone o (HasNoOwn s at)
 own_none s at None h = nameless s at h (stands s at)
 own_none s at (Some n) h = tt
 
 -- ---- the numbers so far
 
-pub nothing_yet : (s : Source) (numbers : List ℕ) → numbers ≡ [] → AreNumbers s 0 numbers
+pub nothing_yet : (s : Parser) (numbers : List ℕ) → numbers ≡ [] → AreNumbers s 0 numbers
 nothing_yet s numbers is = record { numbers_are = is; few = omega (arith, ap length is) }
 
-pub passed : (s : Source) (at : ℕ) (numbers : List ℕ) → AreNumbers s at numbers → HasNoOwn s at → AreNumbers s (at + 1) numbers
+pub passed : (s : Parser) (at : ℕ) (numbers : List ℕ) → AreNumbers s at numbers → HasNoOwn s at → AreNumbers s (at + 1) numbers
 passed s at numbers l none = record { numbers_are = l.numbers_are ∙ sym none; few = l.few }
 
 -- one name more
-pub pushed : (s : Source) (at number : ℕ) (numbers new : List ℕ) → AreNumbers s at numbers → IsOwn s at number → length numbers < 200000 → new ≡ numbers ++ number ∷ [] → AreNumbers s (at + 1) new
+pub pushed : (s : Parser) (at number : ℕ) (numbers new : List ℕ) → AreNumbers s at numbers → IsOwn s at number → length numbers < 200000 → new ≡ numbers ++ number ∷ [] → AreNumbers s (at + 1) new
 pushed s at number numbers new l own lt is = record {
   numbers_are = is ∙ ap (λ (ns : List ℕ). ns ++ number ∷ []) l.numbers_are ∙ sym own.owns;
   few = omega (arith, ap length is, length-append numbers (number ∷ []));
 }
 
-pub one_too_many : (s : Source) (end at number : ℕ) (numbers : List ℕ) → at < end → AreNumbers s at numbers → IsOwn s at number → 200000 ≤ length numbers → AreOwn s end numbers (Some at)
+pub one_too_many : (s : Parser) (end at number : ℕ) (numbers : List ℕ) → at < end → AreNumbers s at numbers → IsOwn s at number → 200000 ≤ length numbers → AreOwn s end numbers (Some at)
 one_too_many s end at number numbers lt l own many = (lt, l, many, number, own)
 
-pub at_end : (s : Source) (end at : ℕ) (numbers : List ℕ) → at ≡ end → AreNumbers s at numbers → AreOwn s end numbers None
+pub at_end : (s : Parser) (end at : ℕ) (numbers : List ℕ) → at ≡ end → AreNumbers s at numbers → AreOwn s end numbers None
 at_end s end at numbers is l = subst (λ (k : ℕ). AreNumbers s k numbers) is l
 
 -- ---- where the name of a number stands
 
 -- before a token the name of the number at an index
-pub record NameOf (s : Source) (end : ℕ) (numbers : List ℕ) (i : ℕ) : Type 0 where
+pub record NameOf (s : Parser) (end : ℕ) (numbers : List ℕ) (i : ℕ) : Type 0 where
   pub at : ℕ
   pub early : at < end
   pub owned_there : IsOwn s at (get_or numbers i 0)
   pub before_it : file_numbers (before s at) ≡ take i numbers
 
-last_name : (s : Source) (at n : ℕ) (m : Symbol) (b : Bool) (numbers : List ℕ) (i : ℕ) → is_behind false (before s at) ≡ b → Has s at m → numbers ≡ file_numbers (before s at) ++ numbers_in b (m ∷ [])
+last_name : (s : Parser) (at n : ℕ) (m : Symbol) (b : Bool) (numbers : List ℕ) (i : ℕ) → is_behind false (before s at) ≡ b → Has s at m → numbers ≡ file_numbers (before s at) ++ numbers_in b (m ∷ [])
     → i < length numbers → (i < length (file_numbers (before s at)) → NameOf s at (file_numbers (before s at)) i) → n ≡ suc at → NameOf s n numbers i
 last_name s at n m b numbers i behind has are lt earlier is = by b m behind has are
   where
@@ -223,7 +223,7 @@ last_name s at n m b numbers i behind has are lt earlier is = by b m behind has 
     by true equals e there same = none [] refl same
     by false m e there same = none (numbers_in false (m ∷ [])) refl same
 
-pub name_of : (s : Source) (end : ℕ) (numbers : List ℕ) (i : ℕ) → end ≤ length s.tokens.now → numbers ≡ file_numbers (before s end) → i < length numbers → NameOf s end numbers i
+pub name_of : (s : Parser) (end : ℕ) (numbers : List ℕ) (i : ℕ) → end ≤ length s.tokens.now → numbers ≡ file_numbers (before s end) → i < length numbers → NameOf s end numbers i
 name_of s zero numbers i le are lt = absurd (omega (arith, lt, ap length are))
 name_of s (suc at) numbers i le are lt =
     let there = stands s at (omega arith) in
@@ -233,10 +233,10 @@ name_of s (suc at) numbers i le are lt =
 
 -- ---- the first fault
 
-pub fine : (s : Source) (at : ℕ) (numbers : List ℕ) → AreNumbers s at numbers → IsDistinct nat_eq numbers → AreFine (before s at)
+pub fine : (s : Parser) (at : ℕ) (numbers : List ℕ) → AreNumbers s at numbers → IsDistinct nat_eq numbers → AreFine (before s at)
 fine s at numbers l distinct = record { few = omega (arith, l.few, ap length l.numbers_are); distinct = subst (λ (ns : List ℕ). IsDistinct nat_eq ns) l.numbers_are distinct }
 
-pub too_many : (s : Source) (end : ℕ) (numbers : List ℕ) (at : ℕ) → AreOwn s end numbers (Some at) → IsDistinct nat_eq numbers → NamesAre s end (Some (TooMany at))
+pub too_many : (s : Parser) (end : ℕ) (numbers : List ℕ) (at : ℕ) → AreOwn s end numbers (Some at) → IsDistinct nat_eq numbers → NamesAre s end (Some (TooMany at))
 too_many s end numbers at (lt, l, many, number, own) distinct = (
   number,
   record {
@@ -248,7 +248,7 @@ too_many s end numbers at (lt, l, many, number, own) distinct = (
 )
 
 -- a number that stands in the list a second time
-twice_at : (s : Source) (end last : ℕ) (numbers : List ℕ) (i : ℕ) → last ≤ end → last ≤ length s.tokens.now → AreNumbers s last numbers → i < length numbers → IsDistinct nat_eq (take i numbers)
+twice_at : (s : Parser) (end last : ℕ) (numbers : List ℕ) (i : ℕ) → last ≤ end → last ≤ length s.tokens.now → AreNumbers s last numbers → i < length numbers → IsDistinct nat_eq (take i numbers)
     → (IsDistinct nat_eq (take (i + 1) numbers) → ⊥) → NamesAre s end (Some (Duplicate (get_or numbers i 0)))
 twice_at s end last numbers i le inside l lt distinct again =
     let there = name_of s last numbers i inside l.numbers_are lt in
@@ -264,9 +264,9 @@ twice_at s end last numbers i le inside l lt distinct again =
       },
     )
 
-pub twice : (s : Source) (end : ℕ) (numbers : List ℕ) (stop : Option ℕ) (i : ℕ) → end ≤ length s.tokens.now → AreOwn s end numbers stop → IsFirstRepeat numbers (Some i) → NamesAre s end (Some (Duplicate (get_or numbers i 0)))
+pub twice : (s : Parser) (end : ℕ) (numbers : List ℕ) (stop : Option ℕ) (i : ℕ) → end ≤ length s.tokens.now → AreOwn s end numbers stop → IsFirstRepeat numbers (Some i) → NamesAre s end (Some (Duplicate (get_or numbers i 0)))
 twice s end numbers None i le own r = twice_at s end end numbers i (omega arith) le own r.0 r.1 r.2
 twice s end numbers (Some at) i le own r = twice_at s end at numbers i (omega (arith, own.0)) (omega (arith, own.0, le)) own.1 r.0 r.1 r.2
 
-pub none_twice : (s : Source) (end : ℕ) (numbers : List ℕ) → AreOwn s end numbers None → IsDistinct nat_eq numbers → NamesAre s end None
+pub none_twice : (s : Parser) (end : ℕ) (numbers : List ℕ) → AreOwn s end numbers None → IsDistinct nat_eq numbers → NamesAre s end None
 none_twice s end numbers own distinct = fine s end numbers own distinct

@@ -1,28 +1,28 @@
 -- Reading parts, and instances.
 use Rattle.std.proofs.Common.{◌≡◌, ℕ, pred, ◌+◌, ◌<◌, ◌≤◌, List, [], ◌∷◌, ◌++◌, length, refl, sym, ap, subst, ◌∙◌, arith, length-append}
 use Rattle.std.specs.List.{AllByRecursion}
-use Rattle.p21_parse.specs.declared.source.Source.{Source}
-use Rattle.p21_parse.specs.declared.source.Stop.{Stop}
-use Rattle.p21_parse.specs.declared.source.Stop.TheVariants.{Syntax}
+use Rattle.p21_parse.specs.declared.parser.Parser.{Parser}
+use Rattle.p21_parse.specs.declared.parser.Stop.{Stop}
+use Rattle.p21_parse.specs.declared.parser.Stop.TheVariants.{Syntax}
 use Rattle.p21_parse.specs.Tree.{Trees, PartTree, InstanceTree}
 use Rattle.p21_parse.specs.Symbol.{Symbol, value, name, keyword, dashed, opening, closing, comma, semicolon, equals}
 use Rattle.p21_parse.specs.Spell.{spell_list, spell_part, spell_all, spell_instance}
 use Rattle.p21_parse.specs.Grammar.{IsPart, IsInstance}
 use Rattle.p21_parse.specs.Nesting.{part_nesting, instance_nesting, greatest}
 use Rattle.p21_parse.specs.Machine.{Item, fixed, parameter_list, part, more_parts, behind_name, body, instances, run}
-use Rattle.p21_parse.specs.Source.{from, Has, IsRead, IsRefused, AreRead, AreRefused, IsNotHead, HasNoKeyword, spell_behind_name}
+use Rattle.p21_parse.specs.Parser.{from, Has, IsRead, IsRefused, AreRead, AreRefused, IsNotHead, HasNoKeyword, spell_behind_name}
 use Rattle.p21_parse.proofs.Moves.{Sticks, step, both, took, first_refused, second_refused, opened, opened_refused, stopped, instead, instead_refused, respelled}
 
 -- ---- one part
 
-pub arguments_read : (s : Source) (at next : ℕ) (ts : Trees) → Has s at opening → IsRead s 1 (pred 1) (parameter_list ∷ []) (at + 1) next (spell_list ts) → IsRead s 0 0 (fixed opening ∷ parameter_list ∷ []) at next (λ r. opening ∷ spell_list ts r)
+pub arguments_read : (s : Parser) (at next : ℕ) (ts : Trees) → Has s at opening → IsRead s 1 (pred 1) (parameter_list ∷ []) (at + 1) next (spell_list ts) → IsRead s 0 0 (fixed opening ∷ parameter_list ∷ []) at next (λ r. opening ∷ spell_list ts r)
 arguments_read s at next ts has read =
     both s 0 1 0 at (at + 1) next (fixed opening ∷ []) (parameter_list ∷ []) (λ r. opening ∷ r) (spell_list ts) (took s (fixed opening) 0 1 at opening has refl refl (omega arith)) read
 
-pub arguments_shut : (s : Source) (at : ℕ) (e : Stop) → IsRefused s 0 (fixed opening ∷ []) at e → IsRefused s 0 (fixed opening ∷ parameter_list ∷ []) at e
+pub arguments_shut : (s : Parser) (at : ℕ) (e : Stop) → IsRefused s 0 (fixed opening ∷ []) at e → IsRefused s 0 (fixed opening ∷ parameter_list ∷ []) at e
 arguments_shut s at e refused = first_refused s 0 at (fixed opening ∷ []) (parameter_list ∷ []) e refused
 
-pub arguments_refused : (s : Source) (at : ℕ) (e : Stop) → Has s at opening → IsRefused s 1 (parameter_list ∷ []) (at + 1) e → IsRefused s 0 (fixed opening ∷ parameter_list ∷ []) at e
+pub arguments_refused : (s : Parser) (at : ℕ) (e : Stop) → Has s at opening → IsRefused s 1 (parameter_list ∷ []) (at + 1) e → IsRefused s 0 (fixed opening ∷ parameter_list ∷ []) at e
 arguments_refused s at e has refused =
     second_refused s 0 1 at (at + 1) (fixed opening ∷ []) (parameter_list ∷ []) (λ r. opening ∷ r) e (took s (fixed opening) 0 1 at opening has refl refl (omega arith)) refused
 
@@ -38,19 +38,19 @@ no_part (comma ∷ ss) w = refl
 no_part (semicolon ∷ ss) w = refl
 no_part (equals ∷ ss) w = refl
 
-pub no_keyword : (s : Source) (at : ℕ) → at ≤ length s.tokens.now → HasNoKeyword (from s at) → IsRefused s 0 (part ∷ []) at (Syntax at)
+pub no_keyword : (s : Parser) (at : ℕ) → at ≤ length s.tokens.now → HasNoKeyword (from s at) → IsRefused s 0 (part ∷ []) at (Syntax at)
 no_keyword s at le w = stopped s part 0 at le (no_part (from s at) w)
 
-pub part_read : (s : Source) (at next : ℕ) (p : PartTree) → Has s at (keyword p.keyword) → IsRead s 0 0 (fixed opening ∷ parameter_list ∷ []) (at + 1) next (λ r. opening ∷ spell_list p.parameters r) → IsRead s 0 0 (part ∷ []) at next (spell_part p)
+pub part_read : (s : Parser) (at next : ℕ) (p : PartTree) → Has s at (keyword p.keyword) → IsRead s 0 0 (fixed opening ∷ parameter_list ∷ []) (at + 1) next (λ r. opening ∷ spell_list p.parameters r) → IsRead s 0 0 (part ∷ []) at next (spell_part p)
 part_read s at next p has read = opened s part 0 0 0 at next (keyword p.keyword) (fixed opening ∷ parameter_list ∷ []) (λ r. opening ∷ spell_list p.parameters r) has refl refl (omega arith) read
 
-pub part_refused : (s : Source) (at : ℕ) (w : List ℕ) (e : Stop) → Has s at (keyword w) → IsRefused s 0 (fixed opening ∷ parameter_list ∷ []) (at + 1) e → IsRefused s 0 (part ∷ []) at e
+pub part_refused : (s : Parser) (at : ℕ) (w : List ℕ) (e : Stop) → Has s at (keyword w) → IsRefused s 0 (fixed opening ∷ parameter_list ∷ []) (at + 1) e → IsRefused s 0 (part ∷ []) at e
 part_refused s at w e has refused = opened_refused s part 0 0 at (keyword w) (fixed opening ∷ parameter_list ∷ []) e has refl refl (omega arith) refused
 
 -- ---- parts one after the other
 
 -- the first parts were read
-pub record Parted (s : Source) (at rest : ℕ) (ps : List PartTree) : Type 0 where
+pub record Parted (s : Parser) (at rest : ℕ) (ps : List PartTree) : Type 0 where
   pub some : 0 < length ps
   pub onward : at < rest
   pub inside : rest ≤ length s.tokens.now
@@ -83,7 +83,7 @@ more_alike (comma ∷ ss) h stack = refl
 more_alike (semicolon ∷ ss) h stack = refl
 more_alike (equals ∷ ss) h stack = refl
 
-module _ (s : Source) (at : ℕ) where
+module _ (s : Parser) (at : ℕ) where
   pub begun : (rest : ℕ) (p : PartTree) (ps : List PartTree) → ps ≡ p ∷ [] → IsRead s 0 0 (part ∷ []) at rest (spell_part p) → IsPart p × (part_nesting p ≤ 32) → Parted s at rest ps
   begun rest p ps one read is = subst (Parted s at rest) (sym one) (record {
     some = omega arith;
@@ -122,10 +122,10 @@ module _ (s : Source) (at : ℕ) where
 
 -- ---- the body of an instance
 
-pub complex_read : (s : Source) (at next : ℕ) (ps : List PartTree) → Has s at opening → IsRead s 0 0 (part ∷ more_parts ∷ []) (at + 1) next (λ r. spell_all spell_part ps (closing ∷ r)) → IsRead s 0 0 (body ∷ []) at next (λ r. opening ∷ spell_all spell_part ps (closing ∷ r))
+pub complex_read : (s : Parser) (at next : ℕ) (ps : List PartTree) → Has s at opening → IsRead s 0 0 (part ∷ more_parts ∷ []) (at + 1) next (λ r. spell_all spell_part ps (closing ∷ r)) → IsRead s 0 0 (body ∷ []) at next (λ r. opening ∷ spell_all spell_part ps (closing ∷ r))
 complex_read s at next ps has read = opened s body 0 0 0 at next opening (part ∷ more_parts ∷ []) (λ r. spell_all spell_part ps (closing ∷ r)) has refl refl (omega arith) read
 
-pub complex_refused : (s : Source) (at : ℕ) (e : Stop) → Has s at opening → IsRefused s 0 (part ∷ more_parts ∷ []) (at + 1) e → IsRefused s 0 (body ∷ []) at e
+pub complex_refused : (s : Parser) (at : ℕ) (e : Stop) → Has s at opening → IsRefused s 0 (part ∷ more_parts ∷ []) (at + 1) e → IsRefused s 0 (body ∷ []) at e
 complex_refused s at e has refused = opened_refused s body 0 0 at opening (part ∷ more_parts ∷ []) e has refl refl (omega arith) refused
 
 body_alike : (ss : List Symbol) → IsNotHead opening ss → (stack : List Item) → run 32 0 (body ∷ stack) ss ≡ run 32 0 (part ∷ stack) ss
@@ -140,12 +140,12 @@ body_alike (comma ∷ ss) h stack = refl
 body_alike (semicolon ∷ ss) h stack = refl
 body_alike (equals ∷ ss) h stack = refl
 
-pub simple_read : (s : Source) (at next : ℕ) (p : PartTree) (ps : List PartTree) → ps ≡ p ∷ [] → IsNotHead opening (from s at) → IsRead s 0 0 (part ∷ []) at next (spell_part p) → IsRead s 0 0 (body ∷ []) at next (λ r. spell_all spell_part ps r)
+pub simple_read : (s : Parser) (at next : ℕ) (p : PartTree) (ps : List PartTree) → ps ≡ p ∷ [] → IsNotHead opening (from s at) → IsRead s 0 0 (part ∷ []) at next (spell_part p) → IsRead s 0 0 (body ∷ []) at next (λ r. spell_all spell_part ps r)
 simple_read s at next p ps one h read =
     let spelled : IsRead s 0 0 (part ∷ []) at next (λ r. spell_all spell_part ps r) = respelled s 0 0 at next (part ∷ []) (spell_part p) (λ r. spell_all spell_part ps r) (λ r. ap (λ (qs : List PartTree). spell_all spell_part qs r) (sym one)) read in
     instead s 0 0 at next (body ∷ []) (part ∷ []) (λ r. spell_all spell_part ps r) (body_alike (from s at) h) spelled
 
-pub simple_refused : (s : Source) (at : ℕ) (e : Stop) → IsNotHead opening (from s at) → IsRefused s 0 (part ∷ []) at e → IsRefused s 0 (body ∷ []) at e
+pub simple_refused : (s : Parser) (at : ℕ) (e : Stop) → IsNotHead opening (from s at) → IsRefused s 0 (part ∷ []) at e → IsRefused s 0 (body ∷ []) at e
 simple_refused s at e h refused = instead_refused s 0 at (body ∷ []) (part ∷ []) e (body_alike (from s at) h) refused
 
 -- ---- an instance
@@ -162,7 +162,7 @@ behind_alike (comma ∷ ss) stack = refl
 behind_alike (semicolon ∷ ss) stack = refl
 behind_alike (equals ∷ ss) stack = refl
 
-module _ (s : Source) (at : ℕ) where
+module _ (s : Parser) (at : ℕ) where
   pub instance_bare : (e : Stop) → IsRefused s 0 (fixed equals ∷ []) at e → IsRefused s 0 (behind_name ∷ fixed semicolon ∷ []) at e
   instance_bare e refused =
       instead_refused s 0 at (behind_name ∷ fixed semicolon ∷ []) (fixed equals ∷ body ∷ fixed semicolon ∷ []) e (λ stack. behind_alike (from s at) (fixed semicolon ∷ stack)) (first_refused s 0 at (fixed equals ∷ []) (body ∷ fixed semicolon ∷ []) e refused)
@@ -185,7 +185,7 @@ module _ (s : Source) (at : ℕ) where
 -- ---- instances one after the other
 
 -- the first instances were read
-pub record Counted (s : Source) (at rest : ℕ) (is : List InstanceTree) : Type 0 where
+pub record Counted (s : Parser) (at rest : ℕ) (is : List InstanceTree) : Type 0 where
   pub onward : at ≤ rest
   pub inside : rest ≤ length s.tokens.now
   pub spells : from s at ≡ spell_all spell_instance is (from s rest)
@@ -193,7 +193,7 @@ pub record Counted (s : Source) (at rest : ℕ) (is : List InstanceTree) : Type 
   pub are : AllByRecursion IsInstance is
   pub nests : greatest instance_nesting is ≤ 32
 
-module _ (s : Source) (at : ℕ) where
+module _ (s : Parser) (at : ℕ) where
   pub none_yet : (is : List InstanceTree) → is ≡ [] → at ≤ length s.tokens.now → Counted s at at is
   none_yet is none le = subst (Counted s at at) (sym none) (record { onward = omega arith; inside = le; spells = refl; goes = λ stack. refl; are = tt; nests = omega arith })
 

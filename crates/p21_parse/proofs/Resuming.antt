@@ -14,8 +14,8 @@ use Rattle.p21_join.specs.Join.{LastIsSemicolon}
 use Rattle.p21_join.proofs.Joins.{behind, refused}
 use Rattle.p21_lex.proofs.Runs.{take_within}
 use Rattle.p21_parse.specs.declared.error.ReadErr.{ReadErr}
-use Rattle.p21_parse.specs.declared.source.Source.{Source}
-use Rattle.p21_parse.specs.declared.source.Stop.TheVariants.{Syntax, TooDeep}
+use Rattle.p21_parse.specs.declared.parser.Parser.{Parser}
+use Rattle.p21_parse.specs.declared.parser.Stop.TheVariants.{Syntax, TooDeep}
 use Rattle.p21_parse.specs.declared.names.Before.{Before}
 use Rattle.p21_parse.specs.Tree.{InstanceTree, ExchangeTree}
 use Rattle.p21_parse.specs.Symbol.{Symbol, symbol, text_of, symbol_of, symbols}
@@ -25,9 +25,9 @@ use Rattle.p21_parse.specs.Allowed.{own_number_of}
 use Rattle.p21_parse.specs.Places.{start_of, syntax, too_deep}
 use Rattle.p21_parse.specs.Refused.{file_numbers, RefusedAt}
 use Rattle.p21_parse.specs.Machine.{instances, end_items, file_items, done, stuck, deep, run}
-use Rattle.p21_parse.specs.Source.{IsSource, from, RestRead, FileRead, FileStops, spell_start, spell_last}
+use Rattle.p21_parse.specs.Parser.{IsParser, from, RestRead, FileRead, FileStops, spell_start, spell_last}
 use Rattle.p21_parse.specs.Names.{before, AreFine, IsBehind}
-use Rattle.p21_parse.specs.Text.{IsText, IsRefusedText, IsRefusedSource, from_lex, left_in}
+use Rattle.p21_parse.specs.Text.{IsText, IsRefusedText, IsRefusedTokens, from_lex, left_in}
 use Rattle.p21_parse.specs.Front.{IsFront, GoesOn, with_items}
 use Rattle.p21_parse.proofs.Complete.{start_runs}
 use Rattle.p21_parse.proofs.Owned.{file_to_numbers}
@@ -38,7 +38,7 @@ use Rattle.p21_parse.proofs.BehindLemmas.{count_is, same_from, same_start}
 
 -- ---- where the reader of the rest stopped, the reader of the whole stops
 
-module _ (s t : Source) (ts : List Token) (b : Before) (l : IsBehind s t ts b) (g : GoesOn s t) where
+module _ (s t : Parser) (ts : List Token) (b : Before) (l : IsBehind s t ts b) (g : GoesOn s t) where
   pub stops_syntax : (at : ℕ) → FileStops t (Syntax at) (run 32 0 (instances ∷ end_items) (from t 0)) → FileStops s (Syntax (length ts + at)) (run 32 0 file_items (from s 0))
   stops_syntax at (le, inl e) =
       let all = count_is s t ts b l in
@@ -111,7 +111,7 @@ module _ (bytes : List ℕ) (at : ℕ) (x : ExchangeTree) (f : IsFront (take at 
 
   -- ---- the tokens of the rest among those of the whole
 
-  module _ (s t : Source) (b : Before) (is_text : s.bytes.now ≡ bytes) (is_rest : t.bytes.now ≡ bytes) (all : s.tokens.now ≡ f.well.tokens ++ t.tokens.now) (inside : AllByRecursion (IsToken bytes) t.tokens.now) where
+  module _ (s t : Parser) (b : Before) (is_text : s.bytes.now ≡ bytes) (is_rest : t.bytes.now ≡ bytes) (all : s.tokens.now ≡ f.well.tokens ++ t.tokens.now) (inside : AllByRecursion (IsToken bytes) t.tokens.now) where
     append_all : (P : Token → Type 0) (xs ys : List Token) → AllByRecursion P xs → AllByRecursion P ys → AllByRecursion P (xs ++ ys)
     append_all P [] ys a c = c
     append_all P (y ∷ xs) ys a c = (a.0, append_all P xs ys a.1 c)
@@ -119,7 +119,7 @@ module _ (bytes : List ℕ) (at : ℕ) (x : ExchangeTree) (f : IsFront (take at 
     pub all_inside : AllByRecursion (IsToken bytes) s.tokens.now
     all_inside = subst (λ (us : List Token). AllByRecursion (IsToken bytes) us) (sym all) (append_all (IsToken bytes) f.well.tokens t.tokens.now front_inside inside)
 
-    real : IsSource s
+    real : IsParser s
     real = subst (λ (c : List ℕ). AllByRecursion (IsToken c) s.tokens.now) (sym is_text) all_inside
 
     -- the symbols of the whole are those of the front and then those of the rest
@@ -161,18 +161,18 @@ module _ (bytes : List ℕ) (at : ℕ) (x : ExchangeTree) (f : IsFront (take at 
         let is = exchanged s (with_items x items) file fine in
         as_text bytes s.tokens.now reads all_inside (with_items x items) (ap (λ (c : List ℕ). symbols c s.tokens.now) (sym is_text) ∙ is.spells) is.allowed
 
-    pub refused_behind : (e : ReadErr) → Reads 0 s.tokens.now bytes → IsRefusedSource s e → IsRefusedText bytes e
+    pub refused_behind : (e : ReadErr) → Reads 0 s.tokens.now bytes → IsRefusedTokens s e → IsRefusedText bytes e
     refused_behind e reads said = told_text bytes s s.tokens.now e is_text refl reads all_inside said
 
 -- ---- the same of what the reader of the rest answered
 
--- a source with further tokens before its own
-abbrev whole_of : Source → List Token → Source
+-- a parser with further tokens before its own
+abbrev whole_of : Parser → List Token → Parser
 whole_of t ts = record { bytes = t.bytes; tokens = record t.tokens { now = ts ++ t.tokens.now } }
 
-module _ (bytes : List ℕ) (at : ℕ) (t : Source) (b : Before) (within : at ≤ length bytes) (is_rest : t.bytes.now ≡ bytes) (inside : AllByRecursion (IsToken bytes) t.tokens.now) (reads : Reads at t.tokens.now (drop at bytes))
+module _ (bytes : List ℕ) (at : ℕ) (t : Parser) (b : Before) (within : at ≤ length bytes) (is_rest : t.bytes.now ≡ bytes) (inside : AllByRecursion (IsToken bytes) t.tokens.now) (reads : Reads at t.tokens.now (drop at bytes))
     (marked : b.is_marked ≡ true) {X : Type 0} (view : X → List InstanceTree) where
-  pub call_found : (r : Result X ReadErr) → IfOk r (λ items. RestRead t 0 (view items)) → IfOk r (λ _. (s : Source) (ts : List Token) → IsBehind s t ts b → AreFine (before s (length s.tokens.now)))
+  pub call_found : (r : Result X ReadErr) → IfOk r (λ items. RestRead t 0 (view items)) → IfOk r (λ _. (s : Parser) (ts : List Token) → IsBehind s t ts b → AreFine (before s (length s.tokens.now)))
       → IfOk r (λ items. (x : ExchangeTree) → IsFront (take at bytes) x → map own_number_of x.items ≡ b.numbers.now → IsText bytes (with_items x (view items)))
   call_found (Ok items) rest fine = λ x f numbers.
       let s = whole_of t f.well.tokens in
@@ -180,7 +180,7 @@ module _ (bytes : List ℕ) (at : ℕ) (t : Source) (b : Before) (within : at �
       text_behind bytes at x f s t b is_rest is_rest refl inside (view items) (reads_whole bytes at x f t.tokens.now within reads) rest (fine s f.well.tokens l)
   call_found (Err e) rest fine = tt
 
-  pub call_refused : (r : Result X ReadErr) → IfErr r (λ e. (s : Source) (ts : List Token) → IsBehind s t ts b → GoesOn s t → IsRefusedSource s e)
+  pub call_refused : (r : Result X ReadErr) → IfErr r (λ e. (s : Parser) (ts : List Token) → IsBehind s t ts b → GoesOn s t → IsRefusedTokens s e)
       → IfErr r (λ e. (x : ExchangeTree) → IsFront (take at bytes) x → map own_number_of x.items ≡ b.numbers.now → IsRefusedText bytes e)
   call_refused (Ok items) said = tt
   call_refused (Err e) said = λ x f numbers.

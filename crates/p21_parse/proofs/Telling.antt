@@ -10,8 +10,8 @@ use Rattle.p21_lex.specs.declared.error.LexErr.TheVariants as faults
 use Rattle.p21_lex.specs.Refusal.{IsRefused}
 use Rattle.p21_parse.specs.declared.error.ReadErr.{ReadErr}
 use Rattle.p21_parse.specs.declared.error.ReadErr.TheVariants as errors
-use Rattle.p21_parse.specs.declared.source.Source.{Source}
-use Rattle.p21_parse.specs.declared.source.Stop.TheVariants.{Syntax, TooDeep}
+use Rattle.p21_parse.specs.declared.parser.Parser.{Parser}
+use Rattle.p21_parse.specs.declared.parser.Stop.TheVariants.{Syntax, TooDeep}
 use Rattle.p21_parse.specs.Tree.{ExchangeTree}
 use Rattle.p21_parse.specs.Symbol.{Symbol, name, semicolon, symbols}
 use Rattle.p21_parse.specs.Spell.{spell_file}
@@ -19,9 +19,9 @@ use Rattle.p21_parse.specs.Allowed.{own_number_of, IsAllowed}
 use Rattle.p21_parse.specs.Places.{Refusal, syntax, too_deep, too_many, duplicate, start_of, place_of}
 use Rattle.p21_parse.specs.Refused.{file_numbers, RefusedAt}
 use Rattle.p21_parse.specs.Machine.{endsec, end_iso, Outcome, done, stuck, deep, run, file_items}
-use Rattle.p21_parse.specs.Source.{IsSource, from, FileRead, FileStops}
+use Rattle.p21_parse.specs.Parser.{IsParser, from, FileRead, FileStops}
 use Rattle.p21_parse.specs.Names.{before, AreFine, FaultAt}
-use Rattle.p21_parse.specs.Text.{IsText, HasRefusal, IsRefusedText, IsExchangeOf, IsRefusedSource, left_in, from_lex}
+use Rattle.p21_parse.specs.Text.{IsText, HasRefusal, IsRefusedText, IsExchangeOf, IsRefusedTokens, left_in, from_lex}
 use Rattle.p21_parse.proofs.Leaves.{left_of}
 use Rattle.p21_parse.proofs.Refusals.{IsNumbered, file_syntax, file_goes_on, file_too_deep, file_too_many, file_duplicate}
 use Rattle.p21_parse.proofs.Owned.{file_to_numbers}
@@ -41,7 +41,7 @@ start_none bytes [] (suc at) e = refl
 start_none bytes (u ∷ ts) zero e = absurd cc
 start_none bytes (u ∷ ts) (suc at) e = start_none bytes ts at e
 
-module _ (s : Source) where
+module _ (s : Parser) where
   place_is : (at : ℕ) → at ≤ length s.tokens.now → place_of s.bytes.now s.tokens.now (length s.tokens.now - at) ≡ start_of s.bytes.now (drop at s.tokens.now)
   place_is at le = let back : length s.tokens.now - (length s.tokens.now - at) ≡ at = omega arith in ap (λ (k : ℕ). start_of s.bytes.now (drop k s.tokens.now)) back
 
@@ -58,7 +58,7 @@ module _ (s : Source) where
 
   -- ---- the names
 
-  module _ (real : IsSource s) (end at number : ℕ) (lt : at < end) (le : end ≤ length s.tokens.now) (bound : left_in (run 32 0 file_items (from s 0)) ≤ length s.tokens.now - end) where
+  module _ (real : IsParser s) (end at number : ℕ) (lt : at < end) (le : end ≤ length s.tokens.now) (bound : left_in (run 32 0 file_items (from s 0)) ≤ length s.tokens.now - end) where
     within : left_of (run 32 0 file_items (from s 0)) ≤ length (from s (at + 1))
     within = omega (arith, bound, lt, le, left s (at + 1), same_left (run 32 0 file_items (from s 0)))
 
@@ -139,7 +139,7 @@ told_lex bytes (faults.NumberTooLong place) (inl e) = absurd cc
 told_lex bytes (faults.NumberTooLong place) (inr r) = r
 
 -- the refusal of a text's tokens
-pub told_text : (bytes : List ℕ) (s : Source) (tokens : List Token) (e : ReadErr) → s.bytes.now ≡ bytes → s.tokens.now ≡ tokens → Reads 0 tokens bytes → AllByRecursion (IsToken bytes) tokens → IsRefusedSource s e → IsRefusedText bytes e
+pub told_text : (bytes : List ℕ) (s : Parser) (tokens : List Token) (e : ReadErr) → s.bytes.now ≡ bytes → s.tokens.now ≡ tokens → Reads 0 tokens bytes → AllByRecursion (IsToken bytes) tokens → IsRefusedTokens s e → IsRefusedText bytes e
 told_text bytes s tokens (errors.Lex f) b t reads inside said = absurd said
 told_text bytes s tokens (errors.Syntax place) b t reads inside said = as_refused bytes tokens reads inside (syntax place) (rw (← b, ← t) said)
 told_text bytes s tokens (errors.TooDeep place) b t reads inside said = as_refused bytes tokens reads inside (too_deep place) (rw (← b, ← t) said)

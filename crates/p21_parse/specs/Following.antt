@@ -3,9 +3,9 @@ use Rattle.std.specs.Prelude.{◌≡◌, ℕ, ◌≤◌, List, length, drop}
 use Rattle.p21_lex.specs.declared.token.Token.{Token}
 use Rattle.p21_parse.specs.declared.error.ReadErr.{ReadErr}
 use Rattle.p21_parse.specs.declared.error.ReadErr.TheVariants.{Lex, Syntax, TooDeep, TooMany, Duplicate, NoMemory}
-use Rattle.p21_parse.specs.declared.source.Source.{Source}
-use Rattle.p21_parse.specs.declared.source.Stop.{Stop}
-use Rattle.p21_parse.specs.declared.source.Stop.TheVariants as stops
+use Rattle.p21_parse.specs.declared.parser.Parser.{Parser}
+use Rattle.p21_parse.specs.declared.parser.Stop.{Stop}
+use Rattle.p21_parse.specs.declared.parser.Stop.TheVariants as stops
 use Rattle.p21_parse.specs.Tree.{InstanceTree}
 use Rattle.p21_parse.specs.Symbol.{symbols}
 use Rattle.p21_parse.specs.Spell.{spell_all, spell_instance}
@@ -31,7 +31,7 @@ AreRefusedFrom bytes tokens from most (Duplicate number) = ⊥
 AreRefusedFrom bytes tokens from most NoMemory = Unit {0}
 
 -- how it comes out that reading stopped at a token
-abbrev pub IsFaultOf : Source → Stop → ReadErr → Type 0
+abbrev pub IsFaultOf : Parser → Stop → ReadErr → Type 0
 IsFaultOf s (stops.Syntax at) e = e ≡ Syntax (start_of s.bytes.now (drop at s.tokens.now))
 IsFaultOf s (stops.TooDeep at) e = e ≡ TooDeep (start_of s.bytes.now (drop at s.tokens.now))
 IsFaultOf s stops.NoMemory e = e ≡ NoMemory

@@ -5,14 +5,14 @@ use Rattle.p21_lex.specs.declared.token.Token.{Token}
 use Rattle.p21_lex.specs.Reading.{Reads, IsToken}
 use Rattle.p21_join.specs.Join.{EndsInSemicolon, LastIsSemicolon}
 use Rattle.p21_parse.specs.declared.limits.TheConstants.{MAX_NESTING}
-use Rattle.p21_parse.specs.declared.source.Source.{Source}
+use Rattle.p21_parse.specs.declared.parser.Parser.{Parser}
 use Rattle.p21_parse.specs.Tree.{InstanceTree, ExchangeTree}
 use Rattle.p21_parse.specs.Symbol.{symbols}
 use Rattle.p21_parse.specs.Spell.{spell_all, spell_instance}
 use Rattle.p21_parse.specs.Grammar.{IsExchange}
 use Rattle.p21_parse.specs.Nesting.{exchange_nesting}
 use Rattle.p21_parse.specs.Machine.{instances, end_items, file_items, run}
-use Rattle.p21_parse.specs.Source.{from, spell_start}
+use Rattle.p21_parse.specs.Parser.{from, spell_start}
 
 -- further instances behind those of an exchange
 abbrev pub with_items : ExchangeTree → List InstanceTree → ExchangeTree
@@ -36,5 +36,5 @@ pub record IsFront (front : List ℕ) (x : ExchangeTree) : Type 0 where
 -- ---- the same of tokens that lie in the text
 
 -- Reading all of s goes on as reading t does from the instances on.
-abbrev pub GoesOn : Source → Source → Type 0
+abbrev pub GoesOn : Parser → Parser → Type 0
 GoesOn s t = run MAX_NESTING 0 file_items (from s 0) ≡ run MAX_NESTING 0 (instances ∷ end_items) (from t 0)

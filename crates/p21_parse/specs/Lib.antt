@@ -11,7 +11,7 @@ pub mod Spelled
 pub mod Places
 pub mod Refused
 pub mod Allowed
-pub mod Source
+pub mod Parser
 pub mod Names
 pub mod Front
 pub mod Text

@@ -9,7 +9,7 @@ use Rattle.p21_lex.specs.Refusal.{IsRefused}
 use Rattle.p21_parse.specs.declared.limits.TheConstants.{MAX_NESTING}
 use Rattle.p21_parse.specs.declared.error.ReadErr.{ReadErr}
 use Rattle.p21_parse.specs.declared.error.ReadErr.TheVariants.{Lex, Syntax, TooDeep, TooMany, Duplicate, NoMemory}
-use Rattle.p21_parse.specs.declared.source.Source.{Source}
+use Rattle.p21_parse.specs.declared.parser.Parser.{Parser}
 use Rattle.p21_parse.specs.Tree.{ExchangeTree}
 use Rattle.p21_parse.specs.Symbol.{symbols}
 use Rattle.p21_parse.specs.Spell.{spell_file}
@@ -17,7 +17,7 @@ use Rattle.p21_parse.specs.Allowed.{IsAllowed}
 use Rattle.p21_parse.specs.Places.{Refusal, syntax, too_deep, too_many, duplicate}
 use Rattle.p21_parse.specs.Refused.{RefusedAt}
 use Rattle.p21_parse.specs.Machine.{Outcome, done, stuck, deep, run, file_items}
-use Rattle.p21_parse.specs.Source.{from}
+use Rattle.p21_parse.specs.Parser.{from}
 
 -- The bytes are a file (ISO 10303-21, exchange file): their tokens spell the exchange, which the grammar and the limits allow.
 pub record IsText (bytes : List ℕ) (x : ExchangeTree) : Type 0 where
@@ -51,18 +51,18 @@ IsRefusedText bytes NoMemory = Unit {0}
 -- ---- the same of tokens that lie in the text
 
 -- the tokens spell the exchange, which the grammar and the limits allow
-pub record IsExchangeOf (s : Source) (x : ExchangeTree) : Type 0 where
+pub record IsExchangeOf (s : Parser) (x : ExchangeTree) : Type 0 where
   pub spells : symbols s.bytes.now s.tokens.now ≡ spell_file x
   pub allowed : IsAllowed x
 
 -- the tokens have this refusal
-abbrev pub IsRefusedSource : Source → ReadErr → Type 0
-IsRefusedSource s (Lex e) = ⊥
-IsRefusedSource s (Syntax place) = RefusedAt s.bytes.now s.tokens.now (syntax place)
-IsRefusedSource s (TooDeep place) = RefusedAt s.bytes.now s.tokens.now (too_deep place)
-IsRefusedSource s (TooMany place) = RefusedAt s.bytes.now s.tokens.now (too_many place)
-IsRefusedSource s (Duplicate number) = RefusedAt s.bytes.now s.tokens.now (duplicate number)
-IsRefusedSource s NoMemory = Unit {0}
+abbrev pub IsRefusedTokens : Parser → ReadErr → Type 0
+IsRefusedTokens s (Lex e) = ⊥
+IsRefusedTokens s (Syntax place) = RefusedAt s.bytes.now s.tokens.now (syntax place)
+IsRefusedTokens s (TooDeep place) = RefusedAt s.bytes.now s.tokens.now (too_deep place)
+IsRefusedTokens s (TooMany place) = RefusedAt s.bytes.now s.tokens.now (too_many place)
+IsRefusedTokens s (Duplicate number) = RefusedAt s.bytes.now s.tokens.now (duplicate number)
+IsRefusedTokens s NoMemory = Unit {0}
 
 -- how many symbols are left where the machine ended
 abbrev pub left_in : Outcome → ℕ
@@ -71,5 +71,5 @@ left_in (stuck left) = left
 left_in (deep left) = left
 
 -- the names among so many tokens refuse the text, where it goes on as a file at least up to there
-abbrev pub NamesRefuse : Source → ℕ → ReadErr → Type 0
-NamesRefuse s end e = left_in (run MAX_NESTING 0 file_items (from s 0)) ≤ length s.tokens.now - end → IsRefusedSource s e
+abbrev pub NamesRefuse : Parser → ℕ → ReadErr → Type 0
+NamesRefuse s end e = left_in (run MAX_NESTING 0 file_items (from s 0)) ≤ length s.tokens.now - end → IsRefusedTokens s e

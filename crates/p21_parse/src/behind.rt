@@ -4,20 +4,20 @@ ghost use Rattle.std.specs.Prelude.{◌≡◌, ◌≤◌, List, length, map, tak
 ghost use Rattle.std.specs.List.{AllByRecursion};
 ghost use Rattle.p21_lex.specs.Reading.{Reads, IsToken};
 ghost use Rattle.p21_lex.specs.declared.token.Token.{Token};
-ghost use Rattle.p21_parse.specs.declared.source.Source.{Source};
+ghost use Rattle.p21_parse.specs.declared.parser.Parser.{Parser};
 ghost use Rattle.p21_parse.specs.Tree.{ExchangeTree};
 ghost use Rattle.p21_parse.specs.Allowed.{own_number_of};
 ghost use Rattle.p21_parse.specs.View.{instance_of};
-ghost use Rattle.p21_parse.specs.Source.{IsSource, RestRead};
+ghost use Rattle.p21_parse.specs.Parser.{IsParser, RestRead};
 ghost use Rattle.p21_parse.specs.Names.{before, AreFine, IsBehind};
-ghost use Rattle.p21_parse.specs.Text.{IsText, IsRefusedText, IsRefusedSource};
+ghost use Rattle.p21_parse.specs.Text.{IsText, IsRefusedText, IsRefusedTokens};
 ghost use Rattle.p21_parse.specs.Front.{IsFront, GoesOn, with_items};
 
 use crate::error::ReadErr;
 use crate::exchange::InstanceList;
 use crate::limits::MAX_INSTANCES;
 use crate::names::Before;
-use crate::source::{Source, Stop};
+use crate::parser::{Parser, Stop};
 use nc_base::Number;
 use p21_lex::{MAX_TEXT, Token, tokens_from};
 use std::alloc::Global;
@@ -34,15 +34,15 @@ fn tokens_behind(alloc: Global, bytes: &[u8], from: u32) -> Result<Vec<Token>, R
     Ok(found)
 }
 
-impl Source<'_> {
+impl Parser<'_> {
     /// The instances that stand behind the front of a file, up to the file's end.
     fn items_behind(&self, alloc: Global, earlier: &Before) -> Result<InstanceList, ReadErr>
-        requires source { IsSource self.now }
+        requires parser { IsParser self.now }
         requires short { length self.now.bytes.now ≤ MAX_TEXT }
         requires few { length earlier.now.numbers.now ≤ MAX_INSTANCES }
         ensures read { IfOk result (λ items. RestRead self.now 0 (map instance_of items)) }
-        ensures fine { IfOk result (λ _. (s : Source) (ts : List Token) → IsBehind s self.now ts earlier.now → AreFine (before s (length s.tokens.now))) }
-        ensures refused { IfErr result (λ e. (s : Source) (ts : List Token) → IsBehind s self.now ts earlier.now → GoesOn s self.now → IsRefusedSource s e) }
+        ensures fine { IfOk result (λ _. (s : Parser) (ts : List Token) → IsBehind s self.now ts earlier.now → AreFine (before s (length s.tokens.now))) }
+        ensures refused { IfErr result (λ e. (s : Parser) (ts : List Token) → IsBehind s self.now ts earlier.now → GoesOn s self.now → IsRefusedTokens s e) }
     {
         match self.rest(alloc, 0) {
             Ok(items) => {
@@ -84,7 +84,7 @@ pub fn read_behind(
         → IsRefusedText bytes.now e) }
 {
     let tokens = tokens_behind(alloc, bytes, from)?;
-    let source = Source {
+    let parser = Parser {
         bytes,
         tokens: tokens.as_slice(),
     };
@@ -92,5 +92,5 @@ pub fn read_behind(
         numbers,
         is_marked: true,
     };
-    source.items_behind(alloc, &earlier)
+    parser.items_behind(alloc, &earlier)
 }

@@ -18,10 +18,10 @@ pub enum ReadErr {
     #[error("no exchange goes on so at byte {0}")]
     Syntax(u32),
     /// The parenthesis at this place, a byte offset, is one more than the `MAX_NESTING` that may be open.
-    #[error("more than 32 parentheses are open at byte {0}")]
+    #[error("too many parentheses are open at byte {0}")]
     TooDeep(u32),
     /// The name at this place, a byte offset, is that of one instance more than the `MAX_INSTANCES` that a file may have.
-    #[error("more than 200,000 instances at byte {0}")]
+    #[error("too many instances at byte {0}")]
     TooMany(u32),
     /// The number of an instance stands a second time.
     #[error("#{0} stands twice")]

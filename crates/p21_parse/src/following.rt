@@ -3,16 +3,16 @@
 ghost use Rattle.std.specs.Prelude.{◌≡◌, ◌≤◌, Ok, map, length, IfOk, IfErr};
 ghost use Rattle.p21_lex.specs.Tokens.{tokens_of};
 ghost use Rattle.p21_parse.specs.View.{instance_of};
-ghost use Rattle.p21_parse.specs.Source.{IsSource};
+ghost use Rattle.p21_parse.specs.Parser.{IsParser};
 ghost use Rattle.p21_parse.specs.Following.{AreInstancesFrom, AreRefusedFrom, IsFaultOf};
 
 use crate::error::ReadErr;
 use crate::exchange::InstanceList;
-use crate::source::{Source, Stop};
+use crate::parser::{Parser, Stop};
 use p21_lex::{MAX_TEXT, Token, tokens_fit};
 use std::alloc::Global;
 
-impl Source<'_> {
+impl Parser<'_> {
     /// Why reading stopped, with its place.
     fn fault(&self, stop: Stop) -> ReadErr
         requires { length self.now.bytes.now ≤ MAX_TEXT }
@@ -32,7 +32,7 @@ impl Source<'_> {
         from: usize,
         most: u32,
     ) -> Result<(InstanceList, usize), ReadErr>
-        requires source { IsSource self.now }
+        requires parser { IsParser self.now }
         requires short { length self.now.bytes.now ≤ MAX_TEXT }
         requires from { from ≤ length self.now.tokens.now }
         ensures found { IfOk result (λ x. AreInstancesFrom self.now.bytes.now self.now.tokens.now from most (map instance_of x.0) x.1) }
@@ -75,7 +75,7 @@ pub fn instances(
     ensures refused { IfErr result (AreRefusedFrom bytes.now tokens.now from most) }
 {
     tokens_fit(bytes, tokens);
-    let source = Source { bytes, tokens };
-    let (items, next) = source.following(alloc, from as usize, most)?;
+    let parser = Parser { bytes, tokens };
+    let (items, next) = parser.following(alloc, from as usize, most)?;
     Ok((items, next as u32))
 }

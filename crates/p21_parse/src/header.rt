@@ -10,12 +10,12 @@ ghost use Rattle.p21_parse.specs.Grammar.{AreParameters, IsText, IsNamed, IsSche
 ghost use Rattle.p21_parse.specs.Nesting.{nestings, part_nesting, greatest};
 ghost use Rattle.p21_parse.specs.View.{tree_of, trees_of, part_of};
 ghost use Rattle.p21_parse.specs.Machine.{fixed, parameter, counted, named, schema, more_schemas, entries, endsec};
-ghost use Rattle.p21_parse.specs.Source.{IsSource, from, IsRead, IsRefused, AreNames, schema_entry, head_items, EntriesRead, IsEnd, IsNoEnd, EntryRead, EntriesRefused};
+ghost use Rattle.p21_parse.specs.Parser.{IsParser, from, IsRead, IsRefused, AreNames, schema_entry, head_items, EntriesRead, IsEnd, IsNoEnd, EntryRead, EntriesRefused};
 
 use crate::exchange::{Part, PartList};
 use crate::limits::MAX_NESTING;
 use crate::param::{Param, ParamList};
-use crate::source::{Source, Stop};
+use crate::parser::{Parser, Stop};
 use nc_base::{NcText, NoMemory};
 use p21_lex::TokenKind;
 use std::alloc::Global;
@@ -29,10 +29,10 @@ fn list_in_list(alloc: Global, params: ParamList) -> Result<ParamList, NoMemory>
     Ok(whole)
 }
 
-impl Source<'_> {
+impl Parser<'_> {
     /// A word, which is no user's keyword, and a semicolon.
     pub fn phrase(&self, at: usize, text: &[u8]) -> Result<usize, Stop>
-        requires source { IsSource self.now }
+        requires parser { IsParser self.now }
         requires at { at ≤ length self.now.tokens.now }
         requires plain { is_user text.now ≡ false }
         ensures read { IfOk result (λ next. IsRead self.now 0 0 (fixed (word text.now) ∷ fixed semicolon ∷ []) at next (λ r. word text.now ∷ semicolon ∷ r)) }
@@ -45,7 +45,7 @@ impl Source<'_> {
 
     /// The parameters of an entry behind its opening parenthesis, one and `more` others, and the closing one.
     fn counted(&self, alloc: Global, at: usize, more: u32) -> Result<(ParamList, usize), Stop>
-        requires source { IsSource self.now }
+        requires parser { IsParser self.now }
         requires at { at ≤ length self.now.tokens.now }
         ensures read { IfOk result (λ x. IsRead self.now 1 0 (parameter ∷ counted more []) at x.1 (spell_list (trees_of x.0))) }
         ensures count { IfOk result (λ x. count (trees_of x.0) ≡ more + 1) }
@@ -75,7 +75,7 @@ impl Source<'_> {
         text: &[u8],
         more: u32,
     ) -> Result<(Part, usize), Stop>
-        requires source { IsSource self.now }
+        requires parser { IsParser self.now }
         requires at { at ≤ length self.now.tokens.now }
         requires plain { is_user text.now ≡ false }
         requires keyword { word text.now ≡ keyword text.now }
@@ -99,7 +99,7 @@ impl Source<'_> {
 
     /// A text.
     fn schema_name(&self, alloc: Global, at: usize) -> Result<(Param, usize), Stop>
-        requires source { IsSource self.now }
+        requires parser { IsParser self.now }
         requires at { at ≤ length self.now.tokens.now }
         ensures read { IfOk result (λ x. IsRead self.now 2 2 (schema ∷ []) at x.1 (spell (tree_of x.0))) }
         ensures is { IfOk result (λ x. IsText (tree_of x.0)) }
@@ -113,7 +113,7 @@ impl Source<'_> {
 
     /// One or more texts behind two opening parentheses, and one closing parenthesis.
     fn schema_names(&self, alloc: Global, at: usize) -> Result<(ParamList, usize), Stop>
-        requires source { IsSource self.now }
+        requires parser { IsParser self.now }
         requires at { at ≤ length self.now.tokens.now }
         ensures read { IfOk result (λ x. IsRead self.now 2 1 (schema ∷ more_schemas ∷ []) at x.1 (spell_list (trees_of x.0))) }
         ensures are { IfOk result (λ x. AreNames (trees_of x.0)) }
@@ -135,7 +135,7 @@ impl Source<'_> {
 
     /// The entry that names schemas.
     pub fn schema(&self, alloc: Global, at: usize) -> Result<(Part, usize), Stop>
-        requires source { IsSource self.now }
+        requires parser { IsParser self.now }
         requires at { at ≤ length self.now.tokens.now }
         ensures read { IfOk result (λ x. IsRead self.now 0 0 schema_entry at x.1 (spell_entry (part_of x.0))) }
         ensures is { IfOk result (λ x. IsSchema (part_of x.0) × (part_nesting (part_of x.0) ≤ MAX_NESTING)) }
@@ -160,7 +160,7 @@ impl Source<'_> {
 
     /// Whether the word that ends the header stands at an index, and no entry of that keyword.
     fn is_end(&self, at: usize) -> bool
-        requires { IsSource self.now }
+        requires { IsParser self.now }
         ensures found { IsTrue result → IsEnd self.now at }
         ensures none { IsFalse result → IsNoEnd (from self.now at) }
     {
@@ -172,7 +172,7 @@ impl Source<'_> {
 
     /// A further entry.
     fn entry(&self, alloc: Global, at: usize) -> Result<(Part, usize), Stop>
-        requires source { IsSource self.now }
+        requires parser { IsParser self.now }
         requires at { at ≤ length self.now.tokens.now }
         requires goes { IsNoEnd (from self.now at) }
         ensures read { IfOk result (λ x. EntryRead self.now at x.1 (spell_entry (part_of x.0))) }
@@ -197,7 +197,7 @@ impl Source<'_> {
 
     /// Further entries, which are put behind those read before, and the end of the header.
     fn entries(&self, alloc: Global, at: usize, before: PartList) -> Result<(PartList, usize), Stop>
-        requires source { IsSource self.now }
+        requires parser { IsParser self.now }
         requires at { at ≤ length self.now.tokens.now }
         ensures read { IfOk result (λ x. EntriesRead self.now at x.1 (map part_of before) (map part_of x.0)) }
         ensures refused { IfErr result (EntriesRefused self.now at) }
@@ -215,7 +215,7 @@ impl Source<'_> {
 
     /// The entries of the header, and its end.
     pub fn head(&self, alloc: Global, at: usize) -> Result<(PartList, usize), Stop>
-        requires source { IsSource self.now }
+        requires parser { IsParser self.now }
         requires at { at ≤ length self.now.tokens.now }
         ensures read { IfOk result (λ x. IsRead self.now 0 0 head_items at x.1 (λ r. spell_all spell_entry (map part_of x.0) (endsec ∷ semicolon ∷ r))) }
         ensures is { IfOk result (λ x. IsHead (map part_of x.0) × (greatest part_nesting (map part_of x.0) ≤ MAX_NESTING)) }

@@ -12,7 +12,7 @@
 //! | error | why a text is not read, and why instances make no exchange | `ReadErr`, `BuildErr` |
 //! | limits | the limits of this profile | `MAX_NESTING`, `MAX_INSTANCES` |
 //! | file, header, parts, parameters | recursive descent: each reads one thing of the grammar from a token on | none |
-//! | source | the text with its tokens, of which the descent looks at one at a time | none |
+//! | parser | the text with its tokens, of which the descent looks at one at a time | none |
 //! | names, repeat | the first fault of the instances' names, and where a number stands a second time | none |
 //! | fitting, spelling | which instances and which symbols can be written | none |
 #![tactic(auto)]
@@ -30,10 +30,10 @@ mod limits;
 mod names;
 mod param;
 mod parameters;
+mod parser;
 mod parts;
 mod reading;
 mod repeat;
-mod source;
 mod spelling;
 
 pub use behind::read_behind;

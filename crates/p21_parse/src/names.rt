@@ -1,15 +1,15 @@
-//! The names of a file's instances: which is one too many, and which stands a second time. A source may be the rest of a text whose front was
-//! read before.
+//! The names of a file's instances: which is one too many, and which stands a second time. The tokens may be those of the
+//! rest of a text whose front was read before.
 
 ghost use Rattle.std.specs.Prelude.{◌≡◌, ◌<◌, ◌≤◌, ◌+◌, ◌∷◌, [], false, List, length, option_map, IfOk, IfSome, IfNone};
 ghost use Rattle.p21_lex.specs.declared.token.Token.{Token};
-ghost use Rattle.p21_parse.specs.declared.source.Source.{Source};
-ghost use Rattle.p21_parse.specs.Source.{IsSource};
+ghost use Rattle.p21_parse.specs.declared.parser.Parser.{Parser};
+ghost use Rattle.p21_parse.specs.Parser.{IsParser};
 ghost use Rattle.p21_parse.specs.Names.{IsBehind, IsOwn, HasNoOwn, AreOwn, NamesAre, fault_behind};
 
 use crate::limits::MAX_INSTANCES;
+use crate::parser::Parser;
 use crate::repeat::first_repeat;
-use crate::source::Source;
 use nc_base::{NoMemory, Number};
 use p21_lex::TokenKind;
 use std::alloc::Global;
@@ -23,7 +23,7 @@ pub enum NameFault {
     Duplicate(Number),
 }
 
-/// What was read before a source's first token.
+/// What was read before the first of a parser's tokens.
 #[derive(Clone, Copy)]
 pub struct Before<'a> {
     /// The numbers of the instances there, in file order.
@@ -33,7 +33,7 @@ pub struct Before<'a> {
 }
 
 impl Before<'_> {
-    /// Nothing: the source is a whole text.
+    /// Nothing: the parser has a whole text.
     pub fn nothing() -> Before<'static>
         ensures numbers { result.numbers.now ≡ [] }
         ensures marked { result.is_marked ≡ false }
@@ -45,12 +45,12 @@ impl Before<'_> {
     }
 }
 
-impl Source<'_> {
+impl Parser<'_> {
     /// The number of the instance whose own name stands at an index, if one does: a name behind a semicolon.
     fn own_name(&self, earlier: &Before, at: usize) -> Option<Number>
-        requires { IsSource self.now }
-        ensures found { IfSome result (λ number. (s : Source) (ts : List Token) → IsBehind s self.now ts earlier.now → IsOwn s (length ts + at) number) }
-        ensures none { IfNone result ((s : Source) (ts : List Token) → IsBehind s self.now ts earlier.now → HasNoOwn s (length ts + at)) }
+        requires { IsParser self.now }
+        ensures found { IfSome result (λ number. (s : Parser) (ts : List Token) → IsBehind s self.now ts earlier.now → IsOwn s (length ts + at) number) }
+        ensures none { IfNone result ((s : Parser) (ts : List Token) → IsBehind s self.now ts earlier.now → HasNoOwn s (length ts + at)) }
     {
         if at == 0 {
             return self.first_name(earlier);
@@ -63,9 +63,9 @@ impl Source<'_> {
 
     /// The number of the instance whose own name the first token is, if it is one.
     fn first_name(&self, earlier: &Before) -> Option<Number>
-        requires { IsSource self.now }
-        ensures found { IfSome result (λ number. (s : Source) (ts : List Token) → IsBehind s self.now ts earlier.now → IsOwn s (length ts) number) }
-        ensures none { IfNone result ((s : Source) (ts : List Token) → IsBehind s self.now ts earlier.now → HasNoOwn s (length ts)) }
+        requires { IsParser self.now }
+        ensures found { IfSome result (λ number. (s : Parser) (ts : List Token) → IsBehind s self.now ts earlier.now → IsOwn s (length ts) number) }
+        ensures none { IfNone result ((s : Parser) (ts : List Token) → IsBehind s self.now ts earlier.now → HasNoOwn s (length ts)) }
     {
         if !earlier.is_marked {
             return None;
@@ -80,10 +80,10 @@ impl Source<'_> {
         earlier: &Before,
         end: usize,
     ) -> Result<(Vec<Number>, Option<usize>), NoMemory>
-        requires source { IsSource self.now }
+        requires parser { IsParser self.now }
         requires few { length earlier.now.numbers.now ≤ MAX_INSTANCES }
         requires end { end ≤ length self.now.tokens.now }
-        ensures { IfOk result (λ r. (s : Source) (ts : List Token) → IsBehind s self.now ts earlier.now
+        ensures { IfOk result (λ r. (s : Parser) (ts : List Token) → IsBehind s self.now ts earlier.now
             → AreOwn s (length ts + end) r.0.items (option_map (λ at. length ts + at) r.1)) }
     {
         let mut numbers = Vec::from_slice(alloc, earlier.numbers)?;
@@ -106,10 +106,10 @@ impl Source<'_> {
         earlier: &Before,
         end: usize,
     ) -> Result<Option<NameFault>, NoMemory>
-        requires source { IsSource self.now }
+        requires parser { IsParser self.now }
         requires few { length earlier.now.numbers.now ≤ MAX_INSTANCES }
         requires end { end ≤ length self.now.tokens.now }
-        ensures { IfOk result (λ fault. (s : Source) (ts : List Token) → IsBehind s self.now ts earlier.now
+        ensures { IfOk result (λ fault. (s : Parser) (ts : List Token) → IsBehind s self.now ts earlier.now
             → NamesAre s (length ts + end) (fault_behind (length ts) fault)) }
     {
         let (numbers, one_more) = self.own_numbers(alloc, earlier, end)?;

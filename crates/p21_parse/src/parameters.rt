@@ -9,11 +9,11 @@ ghost use Rattle.p21_parse.specs.Grammar.{IsParameter, AreParameters};
 ghost use Rattle.p21_parse.specs.Nesting.{nesting, nestings};
 ghost use Rattle.p21_parse.specs.View.{tree_of, trees_of};
 ghost use Rattle.p21_parse.specs.Machine.{parameter, parameter_list, more_parameters};
-ghost use Rattle.p21_parse.specs.Source.{IsSource, Has, IsRead, IsRefused};
+ghost use Rattle.p21_parse.specs.Parser.{IsParser, Has, IsRead, IsRefused};
 
 use crate::limits::MAX_NESTING;
 use crate::param::{Param, ParamList};
-use crate::source::{Source, Stop};
+use crate::parser::{Parser, Stop};
 use nc_base::{NcText, NoMemory};
 use p21_lex::TokenKind;
 use std::alloc::Global;
@@ -37,7 +37,7 @@ fn list_of(params: ParamList) -> Param
     Param::List(params)
 }
 
-impl Source<'_> {
+impl Parser<'_> {
     /// For how many parameters a list gets room, whose first stands at the index: as many as its commas say, within bounds.
     /// It is no promise of what follows.
     fn width(&self, at: usize) -> u32
@@ -64,7 +64,7 @@ impl Source<'_> {
     /// A parameter.
     #[cycle(params)]
     pub fn parameter(&self, alloc: Global, at: usize, n: u32) -> Result<(Param, usize), Stop>
-        requires source { IsSource self.now }
+        requires parser { IsParser self.now }
         requires at { at ≤ length self.now.tokens.now }
         requires nest { n ≤ MAX_NESTING }
         ensures read { IfOk result (λ x. IsRead self.now n n (parameter ∷ []) at x.1 (spell (tree_of x.0))) }
@@ -86,7 +86,7 @@ impl Source<'_> {
     /// A typed parameter, whose keyword stands at the index.
     #[cycle(params)]
     fn typed(&self, alloc: Global, word: &[u8], at: usize, n: u32) -> Result<(Param, usize), Stop>
-        requires source { IsSource self.now }
+        requires parser { IsParser self.now }
         requires nest { n ≤ MAX_NESTING }
         requires word { Has self.now at (keyword word.now) }
         ensures read { IfOk result (λ x. IsRead self.now n n (parameter ∷ []) at x.1 (spell (tree_of x.0))) }
@@ -102,7 +102,7 @@ impl Source<'_> {
     /// A list, whose opening parenthesis stands at the index.
     #[cycle(params)]
     fn list(&self, alloc: Global, at: usize, n: u32) -> Result<(Param, usize), Stop>
-        requires source { IsSource self.now }
+        requires parser { IsParser self.now }
         requires nest { n ≤ MAX_NESTING }
         requires mark { Has self.now at opening }
         ensures read { IfOk result (λ x. IsRead self.now n n (parameter ∷ []) at x.1 (spell (tree_of x.0))) }
@@ -124,7 +124,7 @@ impl Source<'_> {
         at: usize,
         n: u32,
     ) -> Result<(ParamList, usize), Stop>
-        requires source { IsSource self.now }
+        requires parser { IsParser self.now }
         requires at { at ≤ length self.now.tokens.now }
         requires nest { n ≤ MAX_NESTING }
         ensures read { IfOk result (λ x. IsRead self.now n (pred n) (parameter_list ∷ []) at x.1 (spell_list (trees_of x.0))) }
@@ -140,7 +140,7 @@ impl Source<'_> {
     /// One or more parameters behind an opening parenthesis, which is counted in `n`, and the closing one.
     #[cycle(params)]
     pub fn parameters(&self, alloc: Global, at: usize, n: u32) -> Result<(ParamList, usize), Stop>
-        requires source { IsSource self.now }
+        requires parser { IsParser self.now }
         requires at { at ≤ length self.now.tokens.now }
         requires nest { n ≤ MAX_NESTING }
         ensures read { IfOk result (λ x. IsRead self.now n (pred n) (parameter ∷ more_parameters ∷ []) at x.1 (spell_list (trees_of x.0))) }

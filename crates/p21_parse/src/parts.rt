@@ -9,12 +9,12 @@ ghost use Rattle.p21_parse.specs.Grammar.{AreParameters, IsPart, HasParts, IsIns
 ghost use Rattle.p21_parse.specs.Nesting.{nestings, part_nesting, instance_nesting, greatest};
 ghost use Rattle.p21_parse.specs.View.{trees_of, part_of, instance_of};
 ghost use Rattle.p21_parse.specs.Machine.{fixed, parameter_list, part, more_parts, behind_name, body};
-ghost use Rattle.p21_parse.specs.Source.{IsSource, IsRead, IsRefused, AreRead, AreRefused, HasNoName, from, spell_behind_name};
+ghost use Rattle.p21_parse.specs.Parser.{IsParser, IsRead, IsRefused, AreRead, AreRefused, HasNoName, from, spell_behind_name};
 
 use crate::exchange::{Instance, InstanceList, Part, PartList};
 use crate::limits::MAX_NESTING;
 use crate::param::ParamList;
-use crate::source::{Source, Stop};
+use crate::parser::{Parser, Stop};
 use nc_base::{NcText, Number};
 use p21_lex::TokenKind;
 use std::alloc::Global;
@@ -26,10 +26,10 @@ struct Body {
     parts: PartList,
 }
 
-impl Source<'_> {
+impl Parser<'_> {
     /// The parameters of a part, in their parentheses.
     fn arguments(&self, alloc: Global, at: usize) -> Result<(ParamList, usize), Stop>
-        requires source { IsSource self.now }
+        requires parser { IsParser self.now }
         requires at { at ≤ length self.now.tokens.now }
         ensures read { IfOk result (λ x. IsRead self.now 0 0 (fixed opening ∷ parameter_list ∷ []) at x.1 (λ r. opening ∷ spell_list (trees_of x.0) r)) }
         ensures are { IfOk result (λ x. AreParameters (trees_of x.0) × (1 + nestings (trees_of x.0) ≤ MAX_NESTING)) }
@@ -41,7 +41,7 @@ impl Source<'_> {
 
     /// A keyword and its parameters.
     fn part(&self, alloc: Global, at: usize) -> Result<(Part, usize), Stop>
-        requires source { IsSource self.now }
+        requires parser { IsParser self.now }
         requires at { at ≤ length self.now.tokens.now }
         ensures read { IfOk result (λ x. IsRead self.now 0 0 (part ∷ []) at x.1 (spell_part (part_of x.0))) }
         ensures is { IfOk result (λ x. IsPart (part_of x.0) × (part_nesting (part_of x.0) ≤ MAX_NESTING)) }
@@ -63,7 +63,7 @@ impl Source<'_> {
 
     /// The parts of a complex instance, and the closing parenthesis behind them.
     fn parts(&self, alloc: Global, at: usize) -> Result<(PartList, usize), Stop>
-        requires source { IsSource self.now }
+        requires parser { IsParser self.now }
         requires at { at ≤ length self.now.tokens.now }
         ensures read { IfOk result (λ x. IsRead self.now 0 0 (part ∷ more_parts ∷ []) at x.1 (λ r. spell_all spell_part (map part_of x.0) (closing ∷ r))) }
         ensures some { IfOk result (λ x. 0 < length (map part_of x.0)) }
@@ -83,7 +83,7 @@ impl Source<'_> {
 
     /// What stands behind the mark behind an instance's name: a part, or parts in parentheses.
     fn body(&self, alloc: Global, at: usize) -> Result<(Body, usize), Stop>
-        requires source { IsSource self.now }
+        requires parser { IsParser self.now }
         requires at { at ≤ length self.now.tokens.now }
         ensures read { IfOk result (λ x. IsRead self.now 0 0 (body ∷ []) at x.1 (spell_parts x.0.complex (map part_of x.0.parts))) }
         ensures has { IfOk result (λ x. HasParts x.0.complex (map part_of x.0.parts)) }
@@ -109,7 +109,7 @@ impl Source<'_> {
         number: Number,
         at: usize,
     ) -> Result<(Instance, usize), Stop>
-        requires source { IsSource self.now }
+        requires parser { IsParser self.now }
         requires at { at ≤ length self.now.tokens.now }
         ensures read { IfOk result (λ x. IsRead self.now 0 0 (behind_name ∷ fixed semicolon ∷ []) at x.1 (spell_behind_name (instance_of x.0))) }
         ensures is { IfOk result (λ x. IsInstance (instance_of x.0) × (instance_nesting (instance_of x.0) ≤ MAX_NESTING)) }
@@ -132,7 +132,7 @@ impl Source<'_> {
 
     /// The instances from an index on, until no name follows.
     pub fn instances(&self, alloc: Global, at: usize) -> Result<(InstanceList, usize), Stop>
-        requires source { IsSource self.now }
+        requires parser { IsParser self.now }
         requires at { at ≤ length self.now.tokens.now }
         ensures read { IfOk result (λ x. AreRead self.now at x.1 (spell_all spell_instance (map instance_of x.0))) }
         ensures end { IfOk result (λ x. HasNoName (from self.now x.1)) }

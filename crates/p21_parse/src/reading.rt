@@ -9,18 +9,18 @@ ghost use Rattle.p21_parse.specs.Tree.{ExchangeTree};
 ghost use Rattle.p21_parse.specs.Spelled.{IsSpelled};
 ghost use Rattle.p21_parse.specs.View.{exchange_of};
 ghost use Rattle.p21_parse.specs.Places.{start_of};
-ghost use Rattle.p21_parse.specs.Source.{IsSource};
+ghost use Rattle.p21_parse.specs.Parser.{IsParser};
 ghost use Rattle.p21_lex.specs.declared.token.Token.{Token};
-ghost use Rattle.p21_parse.specs.declared.source.Source.{Source};
+ghost use Rattle.p21_parse.specs.declared.parser.Parser.{Parser};
 ghost use Rattle.p21_parse.specs.Names.{before, AreFine, IsBehind};
-ghost use Rattle.p21_parse.specs.Text.{IsText, IsRefusedText, IsExchangeOf, IsRefusedSource, NamesRefuse};
+ghost use Rattle.p21_parse.specs.Text.{IsText, IsRefusedText, IsExchangeOf, IsRefusedTokens, NamesRefuse};
 
 use crate::error::ReadErr;
 use crate::exchange::Exchange;
 use crate::laws::grammar_laws;
 use crate::limits::MAX_INSTANCES;
 use crate::names::{Before, NameFault};
-use crate::source::{Source, Stop};
+use crate::parser::{Parser, Stop};
 use p21_lex::{MAX_TEXT, Token, reading_laws, tokens};
 use std::alloc::Global;
 
@@ -35,7 +35,7 @@ fn tokens_of(alloc: Global, bytes: &[u8]) -> Result<Vec<Token>, ReadErr>
     Ok(found)
 }
 
-impl Source<'_> {
+impl Parser<'_> {
     /// Where the token at an index begins: a byte offset, at the end the text's length.
     pub fn place(&self, at: usize) -> u32
         requires { length self.now.bytes.now ≤ MAX_TEXT }
@@ -49,12 +49,12 @@ impl Source<'_> {
 
     /// Looks at the names of instances up to a token.
     pub fn check_names(&self, alloc: Global, earlier: &Before, end: usize) -> Result<(), ReadErr>
-        requires source { IsSource self.now }
+        requires parser { IsParser self.now }
         requires short { length self.now.bytes.now ≤ MAX_TEXT }
         requires few { length earlier.now.numbers.now ≤ MAX_INSTANCES }
         requires end { end ≤ length self.now.tokens.now }
-        ensures fine { IfOk result (λ _. (s : Source) (ts : List Token) → IsBehind s self.now ts earlier.now → AreFine (before s (length ts + end))) }
-        ensures refused { IfErr result (λ e. (s : Source) (ts : List Token) → IsBehind s self.now ts earlier.now → NamesRefuse s (length ts + end) e) }
+        ensures fine { IfOk result (λ _. (s : Parser) (ts : List Token) → IsBehind s self.now ts earlier.now → AreFine (before s (length ts + end))) }
+        ensures refused { IfErr result (λ e. (s : Parser) (ts : List Token) → IsBehind s self.now ts earlier.now → NamesRefuse s (length ts + end) e) }
     {
         match self.name_fault(alloc, earlier, end)? {
             None => Ok(()),
@@ -65,10 +65,10 @@ impl Source<'_> {
 
     /// The exchange that the tokens spell.
     fn exchange(&self, alloc: Global) -> Result<Exchange, ReadErr>
-        requires source { IsSource self.now }
+        requires parser { IsParser self.now }
         requires short { length self.now.bytes.now ≤ MAX_TEXT }
         ensures read { IfOk result (λ x. IsExchangeOf self.now (exchange_of x)) }
-        ensures refused { IfErr result (IsRefusedSource self.now) }
+        ensures refused { IfErr result (IsRefusedTokens self.now) }
     {
         let nothing = Before::nothing();
         match self.file(alloc) {
@@ -100,11 +100,11 @@ pub fn read(alloc: Global, bytes: &[u8]) -> Result<Exchange, ReadErr>
     ensures refused { IfErr result (IsRefusedText bytes.now) }
 {
     let tokens = tokens_of(alloc, bytes)?;
-    let source = Source {
+    let parser = Parser {
         bytes,
         tokens: tokens.as_slice(),
     };
-    source.exchange(alloc)
+    parser.exchange(alloc)
 }
 
 /// A text holds one exchange at most, or it is refused for one reason, but never both. What a text holds can be written. It does nothing.

@@ -4,7 +4,7 @@ use Rattle.p21_lex.specs.declared.token.Token.{Token}
 use Rattle.p21_parse.specs.Tree.{InstanceTree, ExchangeTree}
 use Rattle.p21_parse.specs.Symbol.{Symbol, symbols}
 use Rattle.p21_parse.specs.Spell.{spell_all, spell_instance}
-use Rattle.p21_parse.specs.Source.{spell_start}
+use Rattle.p21_parse.specs.Parser.{spell_start}
 use Rattle.p21_parse.specs.Front.{IsFront, with_items}
 use Rattle.p21_parse.proofs.Joined.{symbols_join, inside_join}
 use Rattle.p21_parse.proofs.Grown.{start_more, grammar_more, shallow_more}

@@ -10,7 +10,7 @@ use Rattle.p21_lex.proofs.Whole.{found, only, listed_is}
 use Rattle.p21_parse.specs.Tree.{InstanceTree, ExchangeTree}
 use Rattle.p21_parse.specs.Symbol.{Symbol, symbol_of, symbols}
 use Rattle.p21_parse.specs.Spell.{spell_all, spell_instance}
-use Rattle.p21_parse.specs.Source.{spell_start, spell_last}
+use Rattle.p21_parse.specs.Parser.{spell_start, spell_last}
 use Rattle.p21_parse.specs.Following.{AreInstancesFrom}
 use Rattle.p21_parse.specs.Text.{IsText}
 use Rattle.p21_parse.proofs.Appends.{longer_instances}

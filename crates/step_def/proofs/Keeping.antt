@@ -1,4 +1,4 @@
--- Numbers that equal those of a walk keep the ranges too.
+-- Numbers that equal those of a lookup keep the ranges too.
 use Rattle.std.proofs.Common.{◌≡◌, ℤ, ◌∷◌, [], IsTrue, ◌<ℤ◌, nat_le}
 use Rattle.std.specs.List.{list_all}
 use Rattle.std.specs.Int.{is_positive}

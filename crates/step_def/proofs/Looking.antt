@@ -14,7 +14,7 @@ use Rattle.entity_types.specs.Entity.{field_at, field_of, references_of, uses_of
 use Rattle.project_store.specs.Reach.{Reaches, root, used}
 use Rattle.step_def.specs.declared.fault.DefFault.{DefFault}
 use Rattle.step_def.specs.Steps.{◌>>=◌}
-use Rattle.step_def.specs.Walk.{referred, found, is_of, of_class, instance_at, class_at, is_absent, free, coordinates_in, coordinates_at, placement_at, plane_at, measure_of, length_in, figure, length_at, free_length_at, kind_at, hole_part, face_part, corner_at, points_alone, four_corners, five_corners, corners_at, corners_in, contour_of, outline_of, pocket_part, feature_part_of, cut_of, is_drilling, is_facing, is_pocketing, is_tool_body, is_strategy, diameter_at, strategy_of, facing_part, pocketing_part, operation_part_of, walk_of}
+use Rattle.step_def.specs.Lookup.{referred, found, is_of, of_class, instance_at, class_at, is_absent, free, coordinates_in, coordinates_at, placement_at, plane_at, measure_of, length_in, quantity, length_at, free_length_at, kind_at, hole_part, face_part, corner_at, points_alone, four_corners, five_corners, corners_at, corners_in, contour_of, outline_of, pocket_part, feature_part_of, technology_of, is_drilling, is_facing, is_pocketing, is_tool_body, is_strategy, diameter_at, strategy_of, facing_part, pocketing_part, operation_part_of, lookup_of}
 use Rattle.path_blocks.specs.Numbers.{Numbers}
 use Rattle.step_def.specs.Numbers.{numbers_at}
 use Rattle.step_def.specs.Ranges.{KeepsRanges, def_with}
@@ -192,7 +192,7 @@ module _ (e f : ℕ → Option Entity) (n : ℕ) (agree : Agree e f n) where
 
   length_same : (x : ℕ × Entity) (position : ℕ) → At e n x → length_at e x.0 x.1 position ≡ length_at f x.0 x.1 position
   unfolding length_at
-  length_same x position at = ap (λ (o : Option ℤ). found x.0 position (option_map (figure x.0 position) o)) (length_in_same x position at (field_of x.1 position) refl)
+  length_same x position at = ap (λ (o : Option ℤ). found x.0 position (option_map (quantity x.0 position) o)) (length_in_same x position at (field_of x.1 position) refl)
 
   free_length_same : (x : ℕ × Entity) (position : ℕ) → At e n x → free_length_at e x.0 x.1 position ≡ free_length_at f x.0 x.1 position
   free_length_same x position at = free_same (field_of x.1 position) (length_at e x.0 x.1 position) (length_at f x.0 x.1 position) (length_same x position at)
@@ -287,8 +287,8 @@ module _ (e f : ℕ → Option Entity) (n : ℕ) (agree : Agree e f n) where
 
   -- ---- operations
 
-  cut_same : (x : ℕ × Entity) → At e n x → cut_of e x ≡ cut_of f x
-  unfolding cut_of
+  cut_same : (x : ℕ × Entity) → At e n x → technology_of e x ≡ technology_of f x
+  unfolding technology_of
   cut_same x at =
       bind_same (free_length_at e x.0 x.1 4) (free_length_at f x.0 x.1 4) _ _ (free_length_same x 4 at) (λ r h.
       bind_same (class_at e x.0 x.1 6 MillingCuttingTool) (class_at f x.0 x.1 6 MillingCuttingTool) _ _ (class_same x 6 MillingCuttingTool at) (λ t g.
@@ -332,11 +332,11 @@ module _ (e f : ℕ → Option Entity) (n : ℕ) (agree : Agree e f n) where
   operation_same k x at =
       if_same (is_drilling x.1) _ _ _ _ refl (if_same (is_facing x.1) _ _ _ _ (facing_same x at) (if_same (is_pocketing x.1) _ _ _ _ (pocketing_same x at) refl))
 
-  -- ---- the whole walk
+  -- ---- the whole lookup
 
-  walk_same : (step : Entity) → At e n (n, step) → walk_of e n step ≡ walk_of f n step
-  unfolding walk_of
-  walk_same step at =
+  lookup_same : (step : Entity) → At e n (n, step) → lookup_of e n step ≡ lookup_of f n step
+  unfolding lookup_of
+  lookup_same step at =
       bind_same (plane_at e n step 2) (plane_at f n step 2) _ _ (plane_same (n, step) 2 at) (λ s h.
       bind_same (instance_at e n step 3) (instance_at f n step 3) _ _ (instance_same (n, step) 3 at) (λ x g.
       let feature = instance_is (n, step) 3 x at g in
@@ -345,14 +345,14 @@ module _ (e f : ℕ → Option Entity) (n : ℕ) (agree : Agree e f n) where
       bind_same (feature_part_of e n x) (feature_part_of f n x) _ _ (feature_same n x feature) (λ r k.
       bind_same (instance_at e n step 4) (instance_at f n step 4) _ _ (instance_same (n, step) 4 at) (λ y l.
       let operation = instance_is (n, step) 4 y at l in
-      bind_same (cut_of e y) (cut_of f y) _ _ (cut_same y operation) (λ c m.
+      bind_same (technology_of e y) (technology_of f y) _ _ (cut_same y operation) (λ c m.
       bind_same (operation_part_of e n y) (operation_part_of f n y) _ _ (operation_same n y operation) (λ o w. refl))))))))
 
   numbers_same : numbers_at e n ≡ numbers_at f n
   unfolding numbers_at
   numbers_same =
       bind_same (found n 3 (e n)) (found n 3 (f n)) _ _ (ap (λ (o : Option Entity). found n 3 o) (agree n root)) (λ step h.
-      bind_same (walk_of e n step) (walk_of f n step) _ _ (walk_same step (root, found_some n 3 (e n) step h)) (λ w g. refl))
+      bind_same (lookup_of e n step) (lookup_of f n step) _ _ (lookup_same step (root, found_some n 3 (e n) step h)) (λ w g. refl))
 
   pub definition_same : def_of e n ≡ def_of f n
   unfolding def_of

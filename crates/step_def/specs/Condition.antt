@@ -3,7 +3,7 @@ use Rattle.std.specs.Prelude.{ℕ, Bool, false, Option}
 use Rattle.std.specs.Option.{option_map_or}
 use Rattle.entity_types.specs.declared.class.Class.TheVariants.{MachiningWorkingstep}
 use Rattle.entity_types.specs.declared.entity.Entity.{Entity}
-use Rattle.step_def.specs.Walk.{is_of}
+use Rattle.step_def.specs.Lookup.{is_of}
 
 -- n is a workingstep
 abbrev pub is_workingstep : (ℕ → Option Entity) → ℕ → Bool

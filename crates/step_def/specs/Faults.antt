@@ -1,4 +1,4 @@
--- The faults of what a walk found: in order, those of each kind as they stand in the walk.
+-- The faults of what a lookup found: in order, those of each kind as they stand in the lookup.
 use Rattle.std.specs.Prelude.{ℤ, pos, neg_ℤ, ◌-ℤ◌, int_le, Bool, true, not, ◌&&◌, ◌||◌, if◌then◌else◌, List, [], ◌∷◌, Option, Some, None, option_map, Result, Ok, Err, ⊤}
 use Rattle.std.specs.Option.{option_map_or}
 use Rattle.std.specs.Int.{is_positive}
@@ -6,24 +6,24 @@ use Rattle.std.specs.Ordering.{int_eq}
 use Rattle.step_def.specs.declared.fault.DefFault.{DefFault}
 use Rattle.step_def.specs.declared.fault.DefFault.TheVariants.{HasToolpath, BadDirection, Mismatch, NotRectangle, NotPositive, OutOfRange}
 use Rattle.step_def.specs.declared.ranges.TheConstants.{MAX_VALUE}
-use Rattle.step_def.specs.declared.found.Coordinates.{Coordinates}
-use Rattle.step_def.specs.declared.found.Figure.{Figure}
-use Rattle.step_def.specs.declared.found.Ranged.{Ranged}
-use Rattle.step_def.specs.declared.found.Placement.{Placement}
-use Rattle.step_def.specs.declared.found.CornerPoints.{CornerPoints}
-use Rattle.step_def.specs.declared.found.Outline.{Outline}
-use Rattle.step_def.specs.declared.found.Outline.TheVariants.{Lengths, Corners, Other}
-use Rattle.step_def.specs.declared.found.FeaturePart.{FeaturePart}
-use Rattle.step_def.specs.declared.found.FeaturePart.TheVariants.{Hole, Face, Hollow}
-use Rattle.step_def.specs.declared.found.OperationPart.{OperationPart}
-use Rattle.step_def.specs.declared.found.OperationPart.TheVariants.{Drilling, Facing, Pocketing}
-use Rattle.step_def.specs.declared.found.Area.{Area}
-use Rattle.step_def.specs.declared.found.Area.TheVariants.{Centred, Cornered}
-use Rattle.step_def.specs.declared.found.Job.{Job}
-use Rattle.step_def.specs.declared.found.Job.TheVariants.{DrillHole, MillFace, MillPocket}
-use Rattle.step_def.specs.declared.found.Walk.{Walk}
+use Rattle.step_def.specs.declared.attributes.Coordinates.{Coordinates}
+use Rattle.step_def.specs.declared.attributes.Quantity.{Quantity}
+use Rattle.step_def.specs.declared.attributes.Ranged.{Ranged}
+use Rattle.step_def.specs.declared.attributes.Placement.{Placement}
+use Rattle.step_def.specs.declared.attributes.CornerPoints.{CornerPoints}
+use Rattle.step_def.specs.declared.attributes.Outline.{Outline}
+use Rattle.step_def.specs.declared.attributes.Outline.TheVariants.{Lengths, Corners, Other}
+use Rattle.step_def.specs.declared.attributes.FeaturePart.{FeaturePart}
+use Rattle.step_def.specs.declared.attributes.FeaturePart.TheVariants.{Hole, Face, Hollow}
+use Rattle.step_def.specs.declared.attributes.OperationPart.{OperationPart}
+use Rattle.step_def.specs.declared.attributes.OperationPart.TheVariants.{Drilling, Facing, Pocketing}
+use Rattle.step_def.specs.declared.attributes.Area.{Area}
+use Rattle.step_def.specs.declared.attributes.Area.TheVariants.{Centred, Cornered}
+use Rattle.step_def.specs.declared.attributes.Machining.{Machining}
+use Rattle.step_def.specs.declared.attributes.Machining.TheVariants.{DrillHole, MillFace, MillPocket}
+use Rattle.step_def.specs.declared.attributes.Lookup.{Lookup}
 use Rattle.step_def.specs.Steps.{◌>>=◌}
-use Rattle.step_def.specs.Walk.{figure}
+use Rattle.step_def.specs.Lookup.{quantity}
 
 -- nothing where the test holds, else the fault
 abbrev pub unless : Bool → DefFault → Result ⊤ DefFault
@@ -58,10 +58,10 @@ course_check (Hole diameter) = Ok tt
 course_check (Face face) = unless (is_straight face.course) (BadDirection face.course.number)
 course_check (Hollow outline) = Ok tt
 
--- no placement of the walk is turned, and a course is straight
-unfoldable pub directions_check : Walk → Result ⊤ DefFault
-directions_check walk =
-    placement_check walk.security >>= λ _. placement_check walk.placement >>= λ _. placement_check walk.floor >>= λ _. course_check walk.feature_part
+-- no placement of the lookup is turned, and a course is straight
+unfoldable pub directions_check : Lookup → Result ⊤ DefFault
+directions_check lookup =
+    placement_check lookup.security >>= λ _. placement_check lookup.placement >>= λ _. placement_check lookup.floor >>= λ _. course_check lookup.feature_part
 
 -- ---- rectangles, and operations that fit their features
 
@@ -97,48 +97,48 @@ area_of (Other n) = Err (NotRectangle n)
 
 -- what the operation makes of the feature: drilling makes holes, milling of planes makes faces, and milling of bottoms and sides
 -- makes pockets
-abbrev pub made_by : Walk → FeaturePart → OperationPart → Result Job DefFault
-made_by walk (Hole diameter) (Drilling dwell) = Ok (DrillHole diameter dwell)
-made_by walk (Face face) (Facing cut) = Ok (MillFace face cut)
-made_by walk (Hollow outline) (Pocketing cut) = area_of outline >>= λ area. Ok (MillPocket area cut)
-made_by walk (Hole diameter) _ = Err (Mismatch walk.operation walk.feature)
-made_by walk (Face face) _ = Err (Mismatch walk.operation walk.feature)
-made_by walk (Hollow outline) _ = Err (Mismatch walk.operation walk.feature)
+abbrev pub made_by : Lookup → FeaturePart → OperationPart → Result Machining DefFault
+made_by lookup (Hole diameter) (Drilling dwell) = Ok (DrillHole diameter dwell)
+made_by lookup (Face face) (Facing cut) = Ok (MillFace face cut)
+made_by lookup (Hollow outline) (Pocketing cut) = area_of outline >>= λ area. Ok (MillPocket area cut)
+made_by lookup (Hole diameter) _ = Err (Mismatch lookup.operation lookup.feature)
+made_by lookup (Face face) _ = Err (Mismatch lookup.operation lookup.feature)
+made_by lookup (Hollow outline) _ = Err (Mismatch lookup.operation lookup.feature)
 
 -- ---- numbers that have to be above 0
 
 -- each of these that is there is above 0
-abbrev pub all_positive : List (Option Figure) → Result ⊤ DefFault
+abbrev pub all_positive : List (Option Quantity) → Result ⊤ DefFault
 all_positive [] = Ok tt
 all_positive (None ∷ xs) = all_positive xs
 all_positive (Some x ∷ xs) = if is_positive x.value then all_positive xs else Err (NotPositive x.number x.position)
 
 -- how deep the feature is: its bottom plane lies so far below its placement
-abbrev pub depth_of : Walk → ℤ
-depth_of walk = neg_ℤ walk.floor.point.z
+abbrev pub depth_of : Lookup → ℤ
+depth_of lookup = neg_ℤ lookup.floor.point.z
 
 -- those of a rectangle
-abbrev pub area_positives : Area → List (Option Figure)
+abbrev pub area_positives : Area → List (Option Quantity)
 area_positives (Centred length width) = Some length ∷ Some width ∷ []
 area_positives (Cornered points) = []
 
 -- those of a feature
-abbrev pub feature_positives : Job → List (Option Figure)
+abbrev pub feature_positives : Machining → List (Option Quantity)
 feature_positives (DrillHole diameter dwell) = Some diameter ∷ []
 feature_positives (MillFace face cut) = Some face.length ∷ Some face.width ∷ []
 feature_positives (MillPocket area cut) = area_positives area
 
 -- those of an operation
-abbrev pub operation_positives : Job → List (Option Figure)
+abbrev pub operation_positives : Machining → List (Option Quantity)
 operation_positives (DrillHole diameter dwell) = []
 operation_positives (MillFace face cut) = Some cut.diameter ∷ cut.axial ∷ []
 operation_positives (MillPocket area cut) = Some cut.diameter ∷ cut.axial ∷ cut.radial ∷ []
 
--- the numbers that have to be above 0 are so, the first fault in the order of the walk; the depth is blamed on the feature's position 5
-unfoldable pub positives_check : Walk → Job → Result ⊤ DefFault
-positives_check walk job =
-    unless (is_positive (depth_of walk)) (NotPositive walk.feature 5) >>= λ _. all_positive (feature_positives job)
-    >>= λ _. unless (is_positive walk.cut.feed.value) (NotPositive walk.cut.feed.number walk.cut.feed.position) >>= λ _. all_positive (operation_positives job)
+-- the numbers that have to be above 0 are so, the first fault in the order of the lookup; the depth is blamed on the feature's position 5
+unfoldable pub positives_check : Lookup → Machining → Result ⊤ DefFault
+positives_check lookup machining =
+    unless (is_positive (depth_of lookup)) (NotPositive lookup.feature 5) >>= λ _. all_positive (feature_positives machining)
+    >>= λ _. unless (is_positive lookup.technology.feed.value) (NotPositive lookup.technology.feed.number lookup.technology.feed.position) >>= λ _. all_positive (operation_positives machining)
 
 -- ---- numbers that have to be within a range
 
@@ -153,7 +153,7 @@ all_in_range (None ∷ xs) = all_in_range xs
 all_in_range (Some x ∷ xs) = if is_in_range x then all_in_range xs else Err (OutOfRange x.number x.position)
 
 -- between these ends
-abbrev pub between : ℤ → ℤ → Figure → Ranged
+abbrev pub between : ℤ → ℤ → Quantity → Ranged
 between least greatest x = record { number = x.number; position = x.position; value = x.value; least = least; greatest = greatest }
 
 -- within the greatest size, upwards and downwards
@@ -161,31 +161,31 @@ abbrev pub is_sized : ℤ → Bool
 is_sized z = int_le (neg_ℤ MAX_VALUE) z && int_le z MAX_VALUE
 
 -- the same, as a range
-abbrev pub sized : Figure → Ranged
+abbrev pub sized : Quantity → Ranged
 sized = between (neg_ℤ MAX_VALUE) MAX_VALUE
 
 -- not below 0, and at most the greatest size
-abbrev pub unsigned : Figure → Ranged
+abbrev pub unsigned : Quantity → Ranged
 unsigned = between (pos 0) MAX_VALUE
 
 -- a part of the whole, in thousandths, and less than the whole
-abbrev pub partial : Figure → Ranged
+abbrev pub partial : Quantity → Ranged
 partial = between (pos 0) (pos 999)
 
 -- not below 0, and less than the depth
-abbrev pub shallower : Walk → Figure → Ranged
-shallower walk = between (pos 0) (depth_of walk -ℤ pos 1)
+abbrev pub shallower : Lookup → Quantity → Ranged
+shallower lookup = between (pos 0) (depth_of lookup -ℤ pos 1)
 
 -- a coordinate of a point, which is blamed on the point's position 2
 abbrev pub coordinate : Coordinates → ℤ → Option Ranged
-coordinate point x = Some (sized (figure point.number 2 x))
+coordinate point x = Some (sized (quantity point.number 2 x))
 
 -- the x and the y of a point
 abbrev pub x_range : Coordinates → Ranged
-x_range point = sized (figure point.number 2 point.x)
+x_range point = sized (quantity point.number 2 point.x)
 
 abbrev pub y_range : Coordinates → Ranged
-y_range point = sized (figure point.number 2 point.y)
+y_range point = sized (quantity point.number 2 point.y)
 
 -- the x and the y of a polyline's points
 abbrev pub corner_ranges : CornerPoints → List (Option Ranged)
@@ -200,42 +200,42 @@ area_ranges (Centred length width) = Some (sized length) ∷ Some (sized width) 
 area_ranges (Cornered points) = corner_ranges points
 
 -- those of a feature
-abbrev pub feature_ranges : Job → List (Option Ranged)
+abbrev pub feature_ranges : Machining → List (Option Ranged)
 feature_ranges (DrillHole diameter dwell) = Some (sized diameter) ∷ []
 feature_ranges (MillFace face cut) = Some (sized face.length) ∷ Some (sized face.width) ∷ []
 feature_ranges (MillPocket area cut) = area_ranges area
 
 -- those of an operation
-abbrev pub operation_ranges : Walk → Job → List (Option Ranged)
-operation_ranges walk (DrillHole diameter dwell) = option_map unsigned dwell ∷ []
-operation_ranges walk (MillFace face cut) =
-    Some (sized cut.diameter) ∷ option_map partial cut.strategy.overlap ∷ option_map sized cut.axial ∷ option_map (shallower walk) cut.bottom ∷ []
-operation_ranges walk (MillPocket area cut) =
-    Some (sized cut.diameter) ∷ option_map sized cut.axial ∷ option_map sized cut.radial ∷ option_map unsigned cut.side ∷ option_map (shallower walk) cut.bottom ∷ []
+abbrev pub operation_ranges : Lookup → Machining → List (Option Ranged)
+operation_ranges lookup (DrillHole diameter dwell) = option_map unsigned dwell ∷ []
+operation_ranges lookup (MillFace face cut) =
+    Some (sized cut.diameter) ∷ option_map partial cut.strategy.overlap ∷ option_map sized cut.axial ∷ option_map (shallower lookup) cut.bottom ∷ []
+operation_ranges lookup (MillPocket area cut) =
+    Some (sized cut.diameter) ∷ option_map sized cut.axial ∷ option_map sized cut.radial ∷ option_map unsigned cut.side ∷ option_map (shallower lookup) cut.bottom ∷ []
 
--- those of every walk before its feature; the depth is in its range where the coordinate is
-abbrev pub place_ranges : Walk → List (Option Ranged)
-place_ranges walk =
-    coordinate walk.security.point walk.security.point.z ∷ coordinate walk.placement.point walk.placement.point.x ∷ coordinate walk.placement.point walk.placement.point.y
-    ∷ coordinate walk.placement.point walk.placement.point.z ∷ coordinate walk.floor.point walk.floor.point.z ∷ []
+-- those of every lookup before its feature; the depth is in its range where the coordinate is
+abbrev pub place_ranges : Lookup → List (Option Ranged)
+place_ranges lookup =
+    coordinate lookup.security.point lookup.security.point.z ∷ coordinate lookup.placement.point lookup.placement.point.x ∷ coordinate lookup.placement.point lookup.placement.point.y
+    ∷ coordinate lookup.placement.point lookup.placement.point.z ∷ coordinate lookup.floor.point lookup.floor.point.z ∷ []
 
 -- those of every operation
-abbrev pub cut_ranges : Walk → List (Option Ranged)
-cut_ranges walk = option_map unsigned walk.cut.retract ∷ Some (sized walk.cut.feed) ∷ Some (sized walk.cut.spindle) ∷ []
+abbrev pub cut_ranges : Lookup → List (Option Ranged)
+cut_ranges lookup = option_map unsigned lookup.technology.retract ∷ Some (sized lookup.technology.feed) ∷ Some (sized lookup.technology.spindle) ∷ []
 
--- the numbers of the walk are within their ranges, the first fault in the order of the walk
-unfoldable pub ranges_check : Walk → Job → Result ⊤ DefFault
-ranges_check walk job =
-    all_in_range (place_ranges walk) >>= λ _. all_in_range (feature_ranges job) >>= λ _. all_in_range (cut_ranges walk) >>= λ _. all_in_range (operation_ranges walk job)
+-- the numbers of the lookup are within their ranges, the first fault in the order of the lookup
+unfoldable pub ranges_check : Lookup → Machining → Result ⊤ DefFault
+ranges_check lookup machining =
+    all_in_range (place_ranges lookup) >>= λ _. all_in_range (feature_ranges machining) >>= λ _. all_in_range (cut_ranges lookup) >>= λ _. all_in_range (operation_ranges lookup machining)
 
 -- ---- the kinds up to the ranges, in their order
 
--- what the walk makes, where none of these faults stands in the way
-unfoldable pub job_of : Walk → Result Job DefFault
-job_of walk = do
-  no_toolpath ← unless (not walk.has_toolpath) (HasToolpath walk.operation)
-  straight ← directions_check walk
-  job ← made_by walk walk.feature_part walk.operation_part
-  above_zero ← positives_check walk job
-  in_range ← ranges_check walk job
-  Ok job
+-- what the lookup makes, where none of these faults stands in the way
+unfoldable pub job_of : Lookup → Result Machining DefFault
+job_of lookup = do
+  no_toolpath ← unless (not lookup.has_toolpath) (HasToolpath lookup.operation)
+  straight ← directions_check lookup
+  machining ← made_by lookup lookup.feature_part lookup.operation_part
+  above_zero ← positives_check lookup machining
+  in_range ← ranges_check lookup machining
+  Ok machining

@@ -1,6 +1,6 @@
 pub mod FaultCode
 pub mod Steps
-pub mod Walk
+pub mod Lookup
 pub mod Faults
 pub mod Numbers
 pub mod Sides

@@ -12,37 +12,37 @@ use Rattle.path_blocks.specs.PathPocket.{Rectangle, shrunk}
 use Rattle.entity_types.specs.declared.entity.Entity.{Entity}
 use Rattle.step_def.specs.declared.fault.DefFault.{DefFault}
 use Rattle.step_def.specs.declared.fault.DefFault.TheVariants.{ToolTooBig, TooManyBlocks}
-use Rattle.step_def.specs.declared.found.Figure.{Figure}
-use Rattle.step_def.specs.declared.found.Area.{Area}
-use Rattle.step_def.specs.declared.found.Area.TheVariants.{Centred, Cornered}
-use Rattle.step_def.specs.declared.found.FaceCut.{FaceCut}
-use Rattle.step_def.specs.declared.found.PocketCut.{PocketCut}
-use Rattle.step_def.specs.declared.found.Job.{Job}
-use Rattle.step_def.specs.declared.found.Job.TheVariants.{DrillHole, MillFace, MillPocket}
-use Rattle.step_def.specs.declared.found.Walk.{Walk}
+use Rattle.step_def.specs.declared.attributes.Quantity.{Quantity}
+use Rattle.step_def.specs.declared.attributes.Area.{Area}
+use Rattle.step_def.specs.declared.attributes.Area.TheVariants.{Centred, Cornered}
+use Rattle.step_def.specs.declared.attributes.FaceCut.{FaceCut}
+use Rattle.step_def.specs.declared.attributes.PocketCut.{PocketCut}
+use Rattle.step_def.specs.declared.attributes.Machining.{Machining}
+use Rattle.step_def.specs.declared.attributes.Machining.TheVariants.{DrillHole, MillFace, MillPocket}
+use Rattle.step_def.specs.declared.attributes.Lookup.{Lookup}
 use Rattle.step_def.specs.Steps.{◌>>=◌}
-use Rattle.step_def.specs.Walk.{found, walk_of}
+use Rattle.step_def.specs.Lookup.{found, lookup_of}
 use Rattle.step_def.specs.Faults.{depth_of, job_of}
 
 -- a number that may be left out
-abbrev pub or_else : ℤ → Option Figure → ℤ
-or_else otherwise x = option_map_or (λ (f : Figure). f.value) x otherwise
+abbrev pub or_else : ℤ → Option Quantity → ℤ
+or_else otherwise x = option_map_or (λ (f : Quantity). f.value) x otherwise
 
 -- the height of the retract plane: so far above the placement, or the security plane where no retract is given
-abbrev pub retract_height : Walk → ℤ
-retract_height walk = option_map_or (λ (retract : Figure). walk.placement.point.z +ℤ retract.value) walk.cut.retract walk.security.point.z
+abbrev pub retract_height : Lookup → ℤ
+retract_height lookup = option_map_or (λ (retract : Quantity). lookup.placement.point.z +ℤ retract.value) lookup.technology.retract lookup.security.point.z
 
 -- how much is left at the bottom
-abbrev pub allowance_of : Job → ℤ
+abbrev pub allowance_of : Machining → ℤ
 allowance_of (DrillHole diameter dwell) = pos 0
 allowance_of (MillFace face cut) = or_else (pos 0) cut.bottom
 allowance_of (MillPocket area cut) = or_else (pos 0) cut.bottom
 
 -- the greatest depth of a level: the whole depth where none is given, as for a hole
-abbrev pub axial_of : Walk → Job → ℤ
-axial_of walk (DrillHole diameter dwell) = depth_of walk
-axial_of walk (MillFace face cut) = or_else (depth_of walk) cut.axial
-axial_of walk (MillPocket area cut) = or_else (depth_of walk) cut.axial
+abbrev pub axial_of : Lookup → Machining → ℤ
+axial_of lookup (DrillHole diameter dwell) = depth_of lookup
+axial_of lookup (MillFace face cut) = or_else (depth_of lookup) cut.axial
+axial_of lookup (MillPocket area cut) = or_else (depth_of lookup) cut.axial
 
 -- ---- faces
 
@@ -57,16 +57,16 @@ step_of cut = max (unsigned_abs cut.diameter.value * (1000 - unsigned_abs (or_el
 -- ---- pockets
 
 -- the rectangle of a pocket: centred on the placement, half the length truncated to its left, or the polyline's, moved by the placement
-abbrev pub rectangle_of : Walk → Area → Rectangle
-rectangle_of walk (Centred length width) =
-    let left = walk.placement.point.x -ℤ pos (unsigned_abs length.value / 2) in
-    let low = walk.placement.point.y -ℤ pos (unsigned_abs width.value / 2) in
+abbrev pub rectangle_of : Lookup → Area → Rectangle
+rectangle_of lookup (Centred length width) =
+    let left = lookup.placement.point.x -ℤ pos (unsigned_abs length.value / 2) in
+    let low = lookup.placement.point.y -ℤ pos (unsigned_abs width.value / 2) in
     record { left = left; low = low; right = left +ℤ length.value; high = low +ℤ width.value }
-rectangle_of walk (Cornered p) = record {
-  left = walk.placement.point.x +ℤ int_min p.first.x p.third.x;
-  low = walk.placement.point.y +ℤ int_min p.first.y p.third.y;
-  right = walk.placement.point.x +ℤ int_max p.first.x p.third.x;
-  high = walk.placement.point.y +ℤ int_max p.first.y p.third.y;
+rectangle_of lookup (Cornered p) = record {
+  left = lookup.placement.point.x +ℤ int_min p.first.x p.third.x;
+  low = lookup.placement.point.y +ℤ int_min p.first.y p.third.y;
+  right = lookup.placement.point.x +ℤ int_max p.first.x p.third.x;
+  high = lookup.placement.point.y +ℤ int_max p.first.y p.third.y;
 }
 
 -- how far the middle of the tool stays from the sides: half its diameter, rounded up, and what is left at the sides
@@ -74,8 +74,8 @@ abbrev pub inset_of : PocketCut → ℕ
 inset_of cut = (unsigned_abs cut.diameter.value + 1) / 2 + unsigned_abs (or_else (pos 0) cut.side)
 
 -- the rectangle that the middle of the tool keeps within
-abbrev pub inset_rectangle : Walk → Area → PocketCut → Rectangle
-inset_rectangle walk area cut = shrunk (rectangle_of walk area) (inset_of cut)
+abbrev pub inset_rectangle : Lookup → Area → PocketCut → Rectangle
+inset_rectangle lookup area cut = shrunk (rectangle_of lookup area) (inset_of cut)
 
 -- no side of the rectangle is below 0
 abbrev pub has_room : Rectangle → Bool
@@ -92,24 +92,24 @@ pocket_in r radial = Pocket r.left r.low r.right r.high radial
 -- ---- all numbers
 
 -- the shape that is made, unless the tool is too big for it
-abbrev pub shape_of : Walk → Job → Result Shape DefFault
-shape_of walk (DrillHole diameter dwell) = Ok (Drill walk.placement.point.x walk.placement.point.y (or_else (pos 0) dwell))
-shape_of walk (MillFace face cut) =
-    Ok (Plane walk.placement.point.x walk.placement.point.y (sign_of face.course.x) (sign_of face.course.y) face.length.value face.width.value (pos (step_of cut)) cut.strategy.both)
-shape_of walk (MillPocket area cut) =
-    if has_room (inset_rectangle walk area cut) then Ok (pocket_in (inset_rectangle walk area cut) (radial_of cut)) else Err (ToolTooBig walk.cut.tool)
+abbrev pub shape_of : Lookup → Machining → Result Shape DefFault
+shape_of lookup (DrillHole diameter dwell) = Ok (Drill lookup.placement.point.x lookup.placement.point.y (or_else (pos 0) dwell))
+shape_of lookup (MillFace face cut) =
+    Ok (Plane lookup.placement.point.x lookup.placement.point.y (sign_of face.course.x) (sign_of face.course.y) face.length.value face.width.value (pos (step_of cut)) cut.strategy.both)
+shape_of lookup (MillPocket area cut) =
+    if has_room (inset_rectangle lookup area cut) then Ok (pocket_in (inset_rectangle lookup area cut) (radial_of cut)) else Err (ToolTooBig lookup.technology.tool)
 
 -- the numbers with this shape
-abbrev pub numbers_with : Walk → Job → Shape → Numbers
-numbers_with walk job shape = record {
-  tool = walk.cut.tool;
-  spindle = walk.cut.spindle.value;
-  feed = walk.cut.feed.value;
-  sec = walk.security.point.z;
-  ret = retract_height walk;
-  z0 = walk.placement.point.z;
-  bottom = walk.placement.point.z -ℤ depth_of walk +ℤ allowance_of job;
-  axial = axial_of walk job;
+abbrev pub numbers_with : Lookup → Machining → Shape → Numbers
+numbers_with lookup machining shape = record {
+  tool = lookup.technology.tool;
+  spindle = lookup.technology.spindle.value;
+  feed = lookup.technology.feed.value;
+  sec = lookup.security.point.z;
+  ret = retract_height lookup;
+  z0 = lookup.placement.point.z;
+  bottom = lookup.placement.point.z -ℤ depth_of lookup +ℤ allowance_of machining;
+  axial = axial_of lookup machining;
   shape = shape;
 }
 
@@ -122,7 +122,7 @@ few_blocks n x =
 unfoldable pub numbers_at : (ℕ → Option Entity) → ℕ → Result Numbers DefFault
 numbers_at from n = do
   step ← found n 3 (from n)
-  walk ← walk_of from n step
-  job ← job_of walk
-  shape ← shape_of walk job
-  few_blocks n (numbers_with walk job shape)
+  lookup ← lookup_of from n step
+  machining ← job_of lookup
+  shape ← shape_of lookup machining
+  few_blocks n (numbers_with lookup machining shape)

@@ -1,6 +1,6 @@
 -- The sides of a rectangle, as the code keeps them.
 use Rattle.path_blocks.specs.PathPocket.{Rectangle}
-use Rattle.step_def.specs.declared.found.Sides.{Sides}
+use Rattle.step_def.specs.declared.attributes.Sides.{Sides}
 
 -- the rectangle with these sides
 abbrev pub rectangle_with : Sides → Rectangle

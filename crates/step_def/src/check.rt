@@ -1,10 +1,12 @@
-//! The faults of what a walk found, kind by kind, up to numbers out of their ranges.
+//! The faults of what a lookup found, kind by kind, up to numbers out of their ranges.
 
 ghost use Rattle.std.specs.Prelude.{◌≡◌};
 ghost use Rattle.step_def.specs.Faults.{all_positive, course_check, directions_check, feature_positives, is_along_x, is_straight, is_upright, job_of, made_by, operation_positives, placement_check, positives_check};
 
+use crate::attributes::{
+    Area, Coordinates, FeaturePart, Lookup, Machining, OperationPart, Placement, Quantity,
+};
 use crate::fault::DefFault;
-use crate::found::{Area, Coordinates, FeaturePart, Figure, Job, OperationPart, Placement, Walk};
 use crate::ranges::ranges_check;
 use crate::rectangle::area_of;
 
@@ -54,40 +56,44 @@ fn course_check(feature: &FeaturePart) -> Result<(), DefFault>
 }
 
 #[tactic(auto, unfolding(crate::specs::Faults::directions_check))]
-fn directions_check(walk: &Walk) -> Result<(), DefFault>
-    ensures { result ≡ directions_check walk.now }
+fn directions_check(lookup: &Lookup) -> Result<(), DefFault>
+    ensures { result ≡ directions_check lookup.now }
 {
-    placement_check(&walk.security)?;
-    placement_check(&walk.placement)?;
-    placement_check(&walk.floor)?;
-    course_check(&walk.feature_part)
+    placement_check(&lookup.security)?;
+    placement_check(&lookup.placement)?;
+    placement_check(&lookup.floor)?;
+    course_check(&lookup.feature_part)
 }
 
-fn made_by(walk: &Walk) -> Result<Job, DefFault>
-    ensures { result ≡ made_by walk.now walk.now.feature_part walk.now.operation_part }
+fn made_by(lookup: &Lookup) -> Result<Machining, DefFault>
+    ensures { result ≡ made_by lookup.now lookup.now.feature_part lookup.now.operation_part }
 {
-    match (&walk.feature_part, &walk.operation_part) {
-        (FeaturePart::Hole { diameter }, OperationPart::Drilling { dwell }) => Ok(Job::DrillHole {
-            diameter: *diameter,
-            dwell: *dwell,
-        }),
-        (FeaturePart::Face(face), OperationPart::Facing(cut)) => Ok(Job::MillFace {
+    match (&lookup.feature_part, &lookup.operation_part) {
+        (FeaturePart::Hole { diameter }, OperationPart::Drilling { dwell }) => Ok(
+            Machining::DrillHole {
+                diameter: *diameter,
+                dwell: *dwell,
+            },
+        ),
+        (FeaturePart::Face(face), OperationPart::Facing(cut)) => Ok(Machining::MillFace {
             face: *face,
             cut: *cut,
         }),
-        (FeaturePart::Hollow { outline }, OperationPart::Pocketing(cut)) => Ok(Job::MillPocket {
-            area: area_of(outline)?,
-            cut: *cut,
-        }),
-        _ => Err(DefFault::Mismatch(walk.operation, walk.feature)),
+        (FeaturePart::Hollow { outline }, OperationPart::Pocketing(cut)) => Ok(
+            Machining::MillPocket {
+                area: area_of(outline)?,
+                cut: *cut,
+            },
+        ),
+        _ => Err(DefFault::Mismatch(lookup.operation, lookup.feature)),
     }
 }
 
-fn all_positive(figures: &[Option<Figure>]) -> Result<(), DefFault>
+fn all_positive(figures: &[Option<Quantity>]) -> Result<(), DefFault>
     ensures { result ≡ all_positive figures.now }
 {
-    for figure in figures {
-        if let Some(x) = figure {
+    for quantity in figures {
+        if let Some(x) = quantity {
             if x.value <= 0 {
                 return Err(DefFault::NotPositive(x.number, x.position));
             }
@@ -96,57 +102,64 @@ fn all_positive(figures: &[Option<Figure>]) -> Result<(), DefFault>
     Ok(())
 }
 
-fn feature_positives_check(job: &Job) -> Result<(), DefFault>
-    ensures { result ≡ all_positive (feature_positives job.now) }
+fn feature_positives_check(machining: &Machining) -> Result<(), DefFault>
+    ensures { result ≡ all_positive (feature_positives machining.now) }
 {
-    match job {
-        Job::DrillHole { diameter, .. } => all_positive(&[Some(*diameter)]),
-        Job::MillFace { face, .. } => all_positive(&[Some(face.length), Some(face.width)]),
-        Job::MillPocket {
+    match machining {
+        Machining::DrillHole { diameter, .. } => all_positive(&[Some(*diameter)]),
+        Machining::MillFace { face, .. } => all_positive(&[Some(face.length), Some(face.width)]),
+        Machining::MillPocket {
             area: Area::Centred { length, width },
             ..
         } => all_positive(&[Some(*length), Some(*width)]),
-        Job::MillPocket {
+        Machining::MillPocket {
             area: Area::Cornered(_),
             ..
         } => Ok(()),
     }
 }
 
-fn operation_positives_check(job: &Job) -> Result<(), DefFault>
-    ensures { result ≡ all_positive (operation_positives job.now) }
+fn operation_positives_check(machining: &Machining) -> Result<(), DefFault>
+    ensures { result ≡ all_positive (operation_positives machining.now) }
 {
-    match job {
-        Job::DrillHole { .. } => Ok(()),
-        Job::MillFace { cut, .. } => all_positive(&[Some(cut.diameter), cut.axial]),
-        Job::MillPocket { cut, .. } => all_positive(&[Some(cut.diameter), cut.axial, cut.radial]),
+    match machining {
+        Machining::DrillHole { .. } => Ok(()),
+        Machining::MillFace { cut, .. } => all_positive(&[Some(cut.diameter), cut.axial]),
+        Machining::MillPocket { cut, .. } => all_positive(&[
+            Some(cut.diameter),
+            cut.axial,
+            cut.radial,
+        ]),
     }
 }
 
 #[tactic(auto, unfolding(crate::specs::Faults::positives_check))]
-fn positives_check(walk: &Walk, job: &Job) -> Result<(), DefFault>
-    ensures { result ≡ positives_check walk.now job.now }
+fn positives_check(lookup: &Lookup, machining: &Machining) -> Result<(), DefFault>
+    ensures { result ≡ positives_check lookup.now machining.now }
 {
-    if walk.floor.point.z >= 0 {
-        return Err(DefFault::NotPositive(walk.feature, 5));
+    if lookup.floor.point.z >= 0 {
+        return Err(DefFault::NotPositive(lookup.feature, 5));
     }
-    feature_positives_check(job)?;
-    if walk.cut.feed.value <= 0 {
-        return Err(DefFault::NotPositive(walk.cut.feed.number, walk.cut.feed.position));
+    feature_positives_check(machining)?;
+    if lookup.technology.feed.value <= 0 {
+        return Err(DefFault::NotPositive(
+            lookup.technology.feed.number,
+            lookup.technology.feed.position,
+        ));
     }
-    operation_positives_check(job)
+    operation_positives_check(machining)
 }
 
 #[tactic(auto, unfolding(crate::specs::Faults::job_of))]
-pub(crate) fn job_of(walk: &Walk) -> Result<Job, DefFault>
-    ensures { result ≡ job_of walk.now }
+pub(crate) fn job_of(lookup: &Lookup) -> Result<Machining, DefFault>
+    ensures { result ≡ job_of lookup.now }
 {
-    if walk.has_toolpath {
-        return Err(DefFault::HasToolpath(walk.operation));
+    if lookup.has_toolpath {
+        return Err(DefFault::HasToolpath(lookup.operation));
     }
-    directions_check(walk)?;
-    let job = made_by(walk)?;
-    positives_check(walk, &job)?;
-    ranges_check(walk, &job)?;
-    Ok(job)
+    directions_check(lookup)?;
+    let machining = made_by(lookup)?;
+    positives_check(lookup, &machining)?;
+    ranges_check(lookup, &machining)?;
+    Ok(machining)
 }

@@ -11,26 +11,26 @@ ghost use Rattle.step_def.specs.Facts.{Facts, IfBetween, PlaceFacts, PocketFacts
 ghost use Rattle.step_def.specs.Condition.{is_workingstep};
 ghost use Rattle.step_def.specs.DefOf.{def_of};
 
+use crate::attributes::{Area, FaceCut, Lookup, Machining, PocketCut, Quantity};
 use crate::check::job_of;
 use crate::fault::DefFault;
-use crate::found::{Area, FaceCut, Figure, Job, PocketCut, Walk};
+use crate::lookup::lookup_of;
 use crate::rectangle::{has_room, rectangle_of, shrunk};
 use crate::reference::is_of;
-use crate::walk::walk_of;
 use entity_types::Class;
 use nc_base::{Number, Steps};
 use path_blocks::{Def, MAX_BLOCKS, Shape, block_count};
 use project_store::Entities;
 use std::sync::ledger::Ledger;
 
-fn depth_of(walk: &Walk) -> i64
-    requires { PlaceFacts walk.now }
-    ensures { result ≡ depth_of walk.now }
+fn depth_of(lookup: &Lookup) -> i64
+    requires { PlaceFacts lookup.now }
+    ensures { result ≡ depth_of lookup.now }
 {
-    -walk.floor.point.z
+    -lookup.floor.point.z
 }
 
-fn value_or(otherwise: i64, x: &Option<Figure>) -> i64
+fn value_or(otherwise: i64, x: &Option<Quantity>) -> i64
     ensures { result ≡ or_else otherwise x.now }
 {
     match x {
@@ -39,41 +39,41 @@ fn value_or(otherwise: i64, x: &Option<Figure>) -> i64
     }
 }
 
-fn allowance_of(job: &Job) -> i64
-    ensures { result ≡ allowance_of job.now }
+fn allowance_of(machining: &Machining) -> i64
+    ensures { result ≡ allowance_of machining.now }
 {
-    match job {
-        Job::DrillHole { .. } => 0,
-        Job::MillFace { cut, .. } => value_or(0, &cut.bottom),
-        Job::MillPocket { cut, .. } => value_or(0, &cut.bottom),
+    match machining {
+        Machining::DrillHole { .. } => 0,
+        Machining::MillFace { cut, .. } => value_or(0, &cut.bottom),
+        Machining::MillPocket { cut, .. } => value_or(0, &cut.bottom),
     }
 }
 
-fn bottom_of(walk: &Walk, job: &Job) -> i64
-    requires { Facts walk.now job.now }
-    ensures { result ≡ walk.now.placement.point.z -ℤ depth_of walk.now +ℤ allowance_of job.now }
+fn bottom_of(lookup: &Lookup, machining: &Machining) -> i64
+    requires { Facts lookup.now machining.now }
+    ensures { result ≡ lookup.now.placement.point.z -ℤ depth_of lookup.now +ℤ allowance_of machining.now }
 {
-    walk.placement.point.z + walk.floor.point.z + allowance_of(job)
+    lookup.placement.point.z + lookup.floor.point.z + allowance_of(machining)
 }
 
-fn axial_of(walk: &Walk, job: &Job) -> i64
-    requires { PlaceFacts walk.now }
-    ensures { result ≡ axial_of walk.now job.now }
+fn axial_of(lookup: &Lookup, machining: &Machining) -> i64
+    requires { PlaceFacts lookup.now }
+    ensures { result ≡ axial_of lookup.now machining.now }
 {
-    match job {
-        Job::DrillHole { .. } => depth_of(walk),
-        Job::MillFace { cut, .. } => value_or(depth_of(walk), &cut.axial),
-        Job::MillPocket { cut, .. } => value_or(depth_of(walk), &cut.axial),
+    match machining {
+        Machining::DrillHole { .. } => depth_of(lookup),
+        Machining::MillFace { cut, .. } => value_or(depth_of(lookup), &cut.axial),
+        Machining::MillPocket { cut, .. } => value_or(depth_of(lookup), &cut.axial),
     }
 }
 
-fn retract_height(walk: &Walk) -> i64
-    requires { PlaceFacts walk.now }
-    ensures { result ≡ retract_height walk.now }
+fn retract_height(lookup: &Lookup) -> i64
+    requires { PlaceFacts lookup.now }
+    ensures { result ≡ retract_height lookup.now }
 {
-    match &walk.cut.retract {
-        Some(retract) => walk.placement.point.z + retract.value,
-        None => walk.security.point.z,
+    match &lookup.technology.retract {
+        Some(retract) => lookup.placement.point.z + retract.value,
+        None => lookup.security.point.z,
     }
 }
 
@@ -121,14 +121,14 @@ fn inset_of(cut: &PocketCut) -> u64
 }
 
 /// The pocket that the middle of the tool keeps within.
-fn pocket_of(walk: &Walk, area: &Area, cut: &PocketCut) -> Result<Shape, DefFault>
-    requires place { PlaceFacts walk.now }
-    requires pocket { PocketFacts walk.now area.now cut.now }
-    ensures { result ≡ shape_of walk.now (Job.MillPocket area.now cut.now) }
+fn pocket_of(lookup: &Lookup, area: &Area, cut: &PocketCut) -> Result<Shape, DefFault>
+    requires place { PlaceFacts lookup.now }
+    requires pocket { PocketFacts lookup.now area.now cut.now }
+    ensures { result ≡ shape_of lookup.now (Machining.MillPocket area.now cut.now) }
 {
-    let sides = shrunk(&rectangle_of(walk, area), inset_of(cut));
+    let sides = shrunk(&rectangle_of(lookup, area), inset_of(cut));
     if !has_room(&sides) {
-        return Err(DefFault::ToolTooBig(walk.cut.tool));
+        return Err(DefFault::ToolTooBig(lookup.technology.tool));
     }
     Ok(Shape::Pocket {
         left: sides.left,
@@ -139,19 +139,19 @@ fn pocket_of(walk: &Walk, area: &Area, cut: &PocketCut) -> Result<Shape, DefFaul
     })
 }
 
-fn shape_of(walk: &Walk, job: &Job) -> Result<Shape, DefFault>
-    requires { Facts walk.now job.now }
-    ensures { result ≡ shape_of walk.now job.now }
+fn shape_of(lookup: &Lookup, machining: &Machining) -> Result<Shape, DefFault>
+    requires { Facts lookup.now machining.now }
+    ensures { result ≡ shape_of lookup.now machining.now }
 {
-    let x = walk.placement.point.x;
-    let y = walk.placement.point.y;
-    match job {
-        Job::DrillHole { dwell, .. } => Ok(Shape::Drill {
+    let x = lookup.placement.point.x;
+    let y = lookup.placement.point.y;
+    match machining {
+        Machining::DrillHole { dwell, .. } => Ok(Shape::Drill {
             x,
             y,
             dwell: value_or(0, dwell),
         }),
-        Job::MillFace { face, cut } => Ok(Shape::Plane {
+        Machining::MillFace { face, cut } => Ok(Shape::Plane {
             x,
             y,
             ux: sign_of(face.course.x),
@@ -161,29 +161,34 @@ fn shape_of(walk: &Walk, job: &Job) -> Result<Shape, DefFault>
             step: step_of(cut),
             both: cut.strategy.both,
         }),
-        Job::MillPocket { area, cut } => pocket_of(walk, area, cut),
+        Machining::MillPocket { area, cut } => pocket_of(lookup, area, cut),
     }
 }
 
 /// The definition with this shape, unless its path would have too many blocks.
-fn def_with(n: Number, walk: &Walk, job: &Job, shape: &Shape) -> Result<Def, DefFault>
-    requires job { job_of walk.now ≡ Ok job.now }
-    requires shape { shape_of walk.now job.now ≡ Ok shape.now }
-    ensures { Gives numbers_of result (few_blocks n (numbers_with walk.now job.now shape.now)) }
+fn def_with(
+    n: Number,
+    lookup: &Lookup,
+    machining: &Machining,
+    shape: &Shape,
+) -> Result<Def, DefFault>
+    requires machining { job_of lookup.now ≡ Ok machining.now }
+    requires shape { shape_of lookup.now machining.now ≡ Ok shape.now }
+    ensures { Gives numbers_of result (few_blocks n (numbers_with lookup.now machining.now shape.now)) }
 {
-    let z0 = walk.placement.point.z;
-    let bottom = bottom_of(walk, job);
-    let axial = axial_of(walk, job);
+    let z0 = lookup.placement.point.z;
+    let bottom = bottom_of(lookup, machining);
+    let axial = axial_of(lookup, machining);
     let count = block_count(z0, bottom, axial, shape);
     if count > MAX_BLOCKS {
         return Err(DefFault::TooManyBlocks(n, count));
     }
     Ok(Def {
-        tool: walk.cut.tool,
-        spindle: walk.cut.spindle.value,
-        feed: walk.cut.feed.value,
-        sec: walk.security.point.z,
-        ret: retract_height(walk),
+        tool: lookup.technology.tool,
+        spindle: lookup.technology.spindle.value,
+        feed: lookup.technology.feed.value,
+        sec: lookup.security.point.z,
+        ret: retract_height(lookup),
         z0,
         bottom,
         axial,
@@ -198,10 +203,10 @@ fn checked<E: Entities>(from: &E, n: Number) -> Result<Def, DefFault>
     let Some(step) = from.get(n) else {
         return Err(DefFault::Missing(n, 3));
     };
-    let walk = walk_of(from, n, step)?;
-    let job = job_of(&walk)?;
-    let shape = shape_of(&walk, &job)?;
-    def_with(n, &walk, &job, &shape)
+    let lookup = lookup_of(from, n, step)?;
+    let machining = job_of(&lookup)?;
+    let shape = shape_of(&lookup, &machining)?;
+    def_with(n, &lookup, &machining, &shape)
 }
 
 /// Whether `n` is a workingstep, as `resolve` demands.

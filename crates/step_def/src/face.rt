@@ -3,10 +3,10 @@
 ghost use Rattle.std.specs.Prelude.{◌≡◌};
 ghost use Rattle.entity_types.specs.Entity.{field_of};
 ghost use Rattle.step_def.specs.Steps.{Gives};
-ghost use Rattle.step_def.specs.Walk.{face_part, is_facing, is_strategy, kind_at, strategy_of, facing_part};
+ghost use Rattle.step_def.specs.Lookup.{face_part, is_facing, is_strategy, kind_at, strategy_of, facing_part};
 
+use crate::attributes::{FaceCut, FacePart, FeaturePart, OperationPart, Strategy};
 use crate::fault::DefFault;
-use crate::found::{FaceCut, FacePart, FeaturePart, OperationPart, Strategy};
 use crate::number::{free_length_at, free_number_at, length_at};
 use crate::placement::coordinates_at;
 use crate::reference::{class_at, is_absent, is_of, referred};
@@ -16,7 +16,7 @@ use nc_base::Number;
 use project_store::Entities;
 
 /// What a face adds: the length and the direction of its course, and the width of its profile.
-#[tactic(auto, unfolding(crate::specs::Walk::face_part))]
+#[tactic(auto, unfolding(crate::specs::Lookup::face_part))]
 pub(crate) fn face_part<E: Entities>(
     from: &E,
     n: Number,
@@ -40,8 +40,9 @@ pub(crate) fn face_part<E: Entities>(
 pub(crate) fn is_facing(operation: &Entity) -> bool
     ensures { result ≡ is_facing operation.now }
 {
-    let code = operation.class.code();
-    45 <= code && code <= 46
+    operation
+        .class
+        .is_between(Class::PlaneRoughMilling, Class::PlaneFinishMilling)
 }
 
 fn is_strategy(strategy: &Entity) -> bool
@@ -50,7 +51,7 @@ fn is_strategy(strategy: &Entity) -> bool
     is_of(Class::Bidirectional, strategy) || is_of(Class::Unidirectional, strategy)
 }
 
-#[tactic(auto, unfolding(crate::specs::Walk::kind_at))]
+#[tactic(auto, unfolding(crate::specs::Lookup::kind_at))]
 fn strategy_at<'a, E: Entities>(
     from: &'a E,
     n: Number,
@@ -66,7 +67,7 @@ fn strategy_at<'a, E: Entities>(
 }
 
 /// How the rows follow each other: there and back without an overlap where nothing is said.
-#[tactic(auto, unfolding(crate::specs::Walk::strategy_of))]
+#[tactic(auto, unfolding(crate::specs::Lookup::strategy_of))]
 fn strategy_of<E: Entities>(from: &E, n: Number, operation: &Entity) -> Result<Strategy, DefFault>
     ensures { result ≡ strategy_of (E.entities from.now) (n, operation.now) }
 {
@@ -85,7 +86,7 @@ fn strategy_of<E: Entities>(from: &E, n: Number, operation: &Entity) -> Result<S
 }
 
 /// What milling a plane adds.
-#[tactic(auto, unfolding(crate::specs::Walk::facing_part))]
+#[tactic(auto, unfolding(crate::specs::Lookup::facing_part))]
 pub(crate) fn facing_part<E: Entities>(
     from: &E,
     n: Number,

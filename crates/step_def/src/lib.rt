@@ -6,13 +6,13 @@
 //! | definition | the definition of a workingstep | `resolve`, `is_workingstep` |
 //! | laws | a definition depends only on what its workingstep reaches | `definition_is_local` |
 //! | fault | why a workingstep has none, and the order of the kinds | `DefFault` |
-//! | walk | what is looked up from a workingstep, in order | |
+//! | lookup | what is looked up from a workingstep, in order | |
 //! | reference | the instances that fields refer to | |
 //! | number | numbers and lengths that stand in fields or measures | |
 //! | placement | points, directions, placements and planes | |
 //! | hole, face, pocket | what features and operations of the three kinds add | |
 //! | tool | the tool of an operation, its feed and its spindle speed | |
-//! | found | what is looked up, as structs | |
+//! | attributes | what is looked up, as structs | |
 //! | check | its faults, kind by kind | |
 //! | rectangle | the rectangle of a pocket | |
 //! | ranges | the ranges of its numbers | `MAX_VALUE` |
@@ -21,13 +21,14 @@
 //! makes it at most once. The tests stand in the crate definition_tests.
 #![tactic(auto)]
 
+mod attributes;
 mod check;
 mod definition;
 mod face;
 mod fault;
-mod found;
 mod hole;
 mod laws;
+mod lookup;
 mod number;
 mod placement;
 mod pocket;
@@ -35,7 +36,6 @@ mod ranges;
 mod rectangle;
 mod reference;
 mod tool;
-mod walk;
 
 pub use definition::{is_workingstep, resolve};
 pub use fault::DefFault;

@@ -2,10 +2,10 @@
 
 ghost use Rattle.std.specs.Prelude.{◌≡◌};
 ghost use Rattle.entity_types.specs.Entity.{field_of};
-ghost use Rattle.step_def.specs.Walk.{value_in, measure_of, length_in, number_at, length_at, free_length_at, free_number_at};
+ghost use Rattle.step_def.specs.Lookup.{value_in, measure_of, length_in, number_at, length_at, free_length_at, free_number_at};
 
+use crate::attributes::Quantity;
 use crate::fault::DefFault;
-use crate::found::Figure;
 use crate::reference::{is_absent, is_of};
 use entity_types::{Class, Entity, Field};
 use nc_base::Number;
@@ -43,12 +43,12 @@ fn length_in<E: Entities>(from: &E, entity: &Entity, position: u8) -> Option<i64
     }
 }
 
-#[tactic(auto, unfolding(crate::specs::Walk::number_at))]
-pub(crate) fn number_at(n: Number, entity: &Entity, position: u8) -> Result<Figure, DefFault>
+#[tactic(auto, unfolding(crate::specs::Lookup::number_at))]
+pub(crate) fn number_at(n: Number, entity: &Entity, position: u8) -> Result<Quantity, DefFault>
     ensures { result ≡ number_at n entity.now position }
 {
     match value_in(entity, position) {
-        Some(value) => Ok(Figure {
+        Some(value) => Ok(Quantity {
             number: n,
             position: u32::from(position),
             value,
@@ -57,17 +57,17 @@ pub(crate) fn number_at(n: Number, entity: &Entity, position: u8) -> Result<Figu
     }
 }
 
-#[tactic(auto, unfolding(crate::specs::Walk::length_at))]
+#[tactic(auto, unfolding(crate::specs::Lookup::length_at))]
 pub(crate) fn length_at<E: Entities>(
     from: &E,
     n: Number,
     entity: &Entity,
     position: u8,
-) -> Result<Figure, DefFault>
+) -> Result<Quantity, DefFault>
     ensures { result ≡ length_at (E.entities from.now) n entity.now position }
 {
     match length_in(from, entity, position) {
-        Some(value) => Ok(Figure {
+        Some(value) => Ok(Quantity {
             number: n,
             position: u32::from(position),
             value,
@@ -82,7 +82,7 @@ pub(crate) fn free_length_at<E: Entities>(
     n: Number,
     entity: &Entity,
     position: u8,
-) -> Result<Option<Figure>, DefFault>
+) -> Result<Option<Quantity>, DefFault>
     ensures { result ≡ free_length_at (E.entities from.now) n entity.now position }
 {
     if is_absent(entity, position) {
@@ -96,7 +96,7 @@ pub(crate) fn free_number_at(
     n: Number,
     entity: &Entity,
     position: u8,
-) -> Result<Option<Figure>, DefFault>
+) -> Result<Option<Quantity>, DefFault>
     ensures { result ≡ free_number_at n entity.now position }
 {
     if is_absent(entity, position) {

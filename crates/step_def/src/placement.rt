@@ -2,10 +2,10 @@
 
 ghost use Rattle.std.specs.Prelude.{◌≡◌};
 ghost use Rattle.entity_types.specs.Entity.{field_of};
-ghost use Rattle.step_def.specs.Walk.{coordinates_at, coordinates_in, free, placement_at, plane_at};
+ghost use Rattle.step_def.specs.Lookup.{coordinates_at, coordinates_in, free, placement_at, plane_at};
 
+use crate::attributes::{Coordinates, Placement};
 use crate::fault::DefFault;
-use crate::found::{Coordinates, Placement};
 use crate::reference::{class_at, is_absent};
 use entity_types::{Class, Entity, Field};
 use nc_base::Number;
@@ -27,7 +27,7 @@ pub(crate) fn coordinates_in(number: Number, entity: &Entity) -> Option<Coordina
 }
 
 /// The coordinates of the point or the direction that a position refers to.
-#[tactic(auto, unfolding(crate::specs::Walk::coordinates_at))]
+#[tactic(auto, unfolding(crate::specs::Lookup::coordinates_at))]
 pub(crate) fn coordinates_at<E: Entities>(
     from: &E,
     n: Number,
@@ -59,7 +59,7 @@ fn direction_at<E: Entities>(
     Ok(Some(coordinates_at(from, n, entity, position, Class::Direction)?))
 }
 
-#[tactic(auto, unfolding(crate::specs::Walk::placement_at))]
+#[tactic(auto, unfolding(crate::specs::Lookup::placement_at))]
 pub(crate) fn placement_at<E: Entities>(
     from: &E,
     n: Number,
@@ -80,7 +80,7 @@ pub(crate) fn placement_at<E: Entities>(
 }
 
 /// The placement of the plane that a position refers to.
-#[tactic(auto, unfolding(crate::specs::Walk::plane_at))]
+#[tactic(auto, unfolding(crate::specs::Lookup::plane_at))]
 pub(crate) fn plane_at<E: Entities>(
     from: &E,
     n: Number,

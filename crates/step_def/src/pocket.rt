@@ -1,10 +1,12 @@
 //! A pocket, and the operations that mill a bottom and its sides.
 
 ghost use Rattle.std.specs.Prelude.{◌≡◌};
-ghost use Rattle.step_def.specs.Walk.{corner_at, corners_at, points_alone, five_corners, four_corners, contour_of, outline_of, pocket_part, is_pocketing, pocketing_part};
+ghost use Rattle.step_def.specs.Lookup.{corner_at, corners_at, points_alone, five_corners, four_corners, contour_of, outline_of, pocket_part, is_pocketing, pocketing_part};
 
+use crate::attributes::{
+    Coordinates, CornerPoints, FeaturePart, OperationPart, Outline, PocketCut,
+};
 use crate::fault::DefFault;
-use crate::found::{Coordinates, CornerPoints, FeaturePart, OperationPart, Outline, PocketCut};
 use crate::number::{free_length_at, length_at};
 use crate::placement::coordinates_in;
 use crate::reference::{instance_at, is_of};
@@ -14,7 +16,7 @@ use nc_base::Number;
 use project_store::Entities;
 
 /// The coordinates of a point that polyline `n` names.
-#[tactic(auto, unfolding(crate::specs::Walk::corner_at))]
+#[tactic(auto, unfolding(crate::specs::Lookup::corner_at))]
 fn corner_at<E: Entities>(from: &E, n: Number, number: Number) -> Result<Coordinates, DefFault>
     ensures { result ≡ corner_at (E.entities from.now) n number }
 {
@@ -39,7 +41,7 @@ fn points_alone<E: Entities>(from: &E, n: Number, numbers: &[Number]) -> Result<
     Ok(Outline::Other(n))
 }
 
-#[tactic(auto, unfolding(crate::specs::Walk::four_corners))]
+#[tactic(auto, unfolding(crate::specs::Lookup::four_corners))]
 fn four_corners<E: Entities>(
     from: &E,
     n: Number,
@@ -64,7 +66,7 @@ fn four_corners<E: Entities>(
     }))
 }
 
-#[tactic(auto, unfolding(crate::specs::Walk::five_corners))]
+#[tactic(auto, unfolding(crate::specs::Lookup::five_corners))]
 fn five_corners<E: Entities>(
     from: &E,
     n: Number,
@@ -107,7 +109,7 @@ fn corners_at<E: Entities>(from: &E, n: Number, numbers: &[Number]) -> Result<Ou
     points_alone(from, n, numbers)
 }
 
-#[tactic(auto, unfolding(crate::specs::Walk::contour_of))]
+#[tactic(auto, unfolding(crate::specs::Lookup::contour_of))]
 fn contour_of<E: Entities>(from: &E, n: Number, contour: &Entity) -> Result<Outline, DefFault>
     ensures { result ≡ contour_of (E.entities from.now) (n, contour.now) }
 {
@@ -120,7 +122,7 @@ fn contour_of<E: Entities>(from: &E, n: Number, contour: &Entity) -> Result<Outl
     }
 }
 
-#[tactic(auto, unfolding(crate::specs::Walk::outline_of))]
+#[tactic(auto, unfolding(crate::specs::Lookup::outline_of))]
 fn outline_of<E: Entities>(from: &E, n: Number, boundary: &Entity) -> Result<Outline, DefFault>
     ensures { result ≡ outline_of (E.entities from.now) (n, boundary.now) }
 {
@@ -137,7 +139,7 @@ fn outline_of<E: Entities>(from: &E, n: Number, boundary: &Entity) -> Result<Out
 }
 
 /// What a pocket adds: its outline.
-#[tactic(auto, unfolding(crate::specs::Walk::pocket_part))]
+#[tactic(auto, unfolding(crate::specs::Lookup::pocket_part))]
 pub(crate) fn pocket_part<E: Entities>(
     from: &E,
     n: Number,
@@ -154,12 +156,14 @@ pub(crate) fn pocket_part<E: Entities>(
 pub(crate) fn is_pocketing(operation: &Entity) -> bool
     ensures { result ≡ is_pocketing operation.now }
 {
-    let code = operation.class.code();
-    47 <= code && code <= 48
+    operation.class.is_between(
+        Class::BottomAndSideRoughMilling,
+        Class::BottomAndSideFinishMilling,
+    )
 }
 
 /// What milling a pocket adds.
-#[tactic(auto, unfolding(crate::specs::Walk::pocketing_part))]
+#[tactic(auto, unfolding(crate::specs::Lookup::pocketing_part))]
 pub(crate) fn pocketing_part<E: Entities>(
     from: &E,
     n: Number,

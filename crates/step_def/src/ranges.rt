@@ -1,10 +1,10 @@
-//! The ranges of the numbers that a walk found.
+//! The ranges of the numbers that a lookup found.
 
 ghost use Rattle.std.specs.Prelude.{◌≡◌, pos, ◌-ℤ◌, option_map, IsTrue, Some};
 ghost use Rattle.step_def.specs.Faults.{all_in_range, between, coordinate, corner_ranges, cut_ranges, depth_of, feature_ranges, is_in_range, is_sized, operation_ranges, place_ranges, ranges_check, shallower, sized, x_range, y_range};
 
+use crate::attributes::{Area, Coordinates, CornerPoints, Lookup, Machining, Quantity, Ranged};
 use crate::fault::DefFault;
-use crate::found::{Area, Coordinates, CornerPoints, Figure, Job, Ranged, Walk};
 
 /// The greatest size of a length, feed, spindle speed or dwell that a workingstep is given, in thousandths of its unit (this profile).
 pub const MAX_VALUE: i64 = 100_000_000;
@@ -31,7 +31,7 @@ fn all_in_range(numbers: &[Option<Ranged>]) -> Result<(), DefFault>
 }
 
 /// A number that has to be between these ends.
-fn between(least: i64, greatest: i64, x: &Figure) -> Option<Ranged>
+fn between(least: i64, greatest: i64, x: &Quantity) -> Option<Ranged>
     ensures { result ≡ Some (between least greatest x.now) }
 {
     Some(Ranged {
@@ -44,7 +44,7 @@ fn between(least: i64, greatest: i64, x: &Figure) -> Option<Ranged>
 }
 
 /// A number that has to be between these ends where it is there.
-fn between_if(least: i64, greatest: i64, x: &Option<Figure>) -> Option<Ranged>
+fn between_if(least: i64, greatest: i64, x: &Option<Quantity>) -> Option<Ranged>
     ensures { result ≡ option_map (between least greatest) x.now }
 {
     match x {
@@ -54,24 +54,24 @@ fn between_if(least: i64, greatest: i64, x: &Option<Figure>) -> Option<Ranged>
 }
 
 /// A number that has to be within the greatest size.
-fn sized(x: &Figure) -> Option<Ranged>
+fn sized(x: &Quantity) -> Option<Ranged>
     ensures { result ≡ Some (sized x.now) }
 {
     between(-MAX_VALUE, MAX_VALUE, x)
 }
 
 /// The greatest allowance that is less than the depth.
-fn greatest_allowance(walk: &Walk) -> i64
-    requires { IsTrue (is_sized walk.now.floor.point.z) }
-    ensures { result ≡ depth_of walk.now -ℤ pos 1 }
+fn greatest_allowance(lookup: &Lookup) -> i64
+    requires { IsTrue (is_sized lookup.now.floor.point.z) }
+    ensures { result ≡ depth_of lookup.now -ℤ pos 1 }
 {
-    -walk.floor.point.z - 1
+    -lookup.floor.point.z - 1
 }
 
 /// An allowance that has to be less than the depth where it is there.
-fn shallower_if(walk: &Walk, x: &Option<Figure>) -> Option<Ranged>
-    requires { IsTrue (is_sized walk.now.floor.point.z) }
-    ensures { result ≡ option_map (shallower walk.now) x.now }
+fn shallower_if(lookup: &Lookup, x: &Option<Quantity>) -> Option<Ranged>
+    requires { IsTrue (is_sized lookup.now.floor.point.z) }
+    ensures { result ≡ option_map (shallower lookup.now) x.now }
 {
     match x {
         Some(x) => Some(Ranged {
@@ -79,7 +79,7 @@ fn shallower_if(walk: &Walk, x: &Option<Figure>) -> Option<Ranged>
             position: x.position,
             value: x.value,
             least: 0,
-            greatest: greatest_allowance(walk),
+            greatest: greatest_allowance(lookup),
         }),
         None => None,
     }
@@ -88,7 +88,7 @@ fn shallower_if(walk: &Walk, x: &Option<Figure>) -> Option<Ranged>
 fn x_of(point: &Coordinates) -> Option<Ranged>
     ensures { result ≡ coordinate point.now point.now.x }
 {
-    sized(&Figure {
+    sized(&Quantity {
         number: point.number,
         position: 2,
         value: point.x,
@@ -98,7 +98,7 @@ fn x_of(point: &Coordinates) -> Option<Ranged>
 fn y_of(point: &Coordinates) -> Option<Ranged>
     ensures { result ≡ coordinate point.now point.now.y }
 {
-    sized(&Figure {
+    sized(&Quantity {
         number: point.number,
         position: 2,
         value: point.y,
@@ -108,7 +108,7 @@ fn y_of(point: &Coordinates) -> Option<Ranged>
 fn z_of(point: &Coordinates) -> Option<Ranged>
     ensures { result ≡ coordinate point.now point.now.z }
 {
-    sized(&Figure {
+    sized(&Quantity {
         number: point.number,
         position: 2,
         value: point.z,
@@ -133,15 +133,15 @@ fn y_if(point: &Option<Coordinates>) -> Option<Ranged>
     }
 }
 
-fn place_check(walk: &Walk) -> Result<(), DefFault>
-    ensures { result ≡ all_in_range (place_ranges walk.now) }
+fn place_check(lookup: &Lookup) -> Result<(), DefFault>
+    ensures { result ≡ all_in_range (place_ranges lookup.now) }
 {
     all_in_range(&[
-        z_of(&walk.security.point),
-        x_of(&walk.placement.point),
-        y_of(&walk.placement.point),
-        z_of(&walk.placement.point),
-        z_of(&walk.floor.point),
+        z_of(&lookup.security.point),
+        x_of(&lookup.placement.point),
+        y_of(&lookup.placement.point),
+        z_of(&lookup.placement.point),
+        z_of(&lookup.floor.point),
     ])
 }
 
@@ -162,62 +162,65 @@ fn corners_check(p: &CornerPoints) -> Result<(), DefFault>
     ])
 }
 
-fn feature_ranges_check(job: &Job) -> Result<(), DefFault>
-    ensures { result ≡ all_in_range (feature_ranges job.now) }
+fn feature_ranges_check(machining: &Machining) -> Result<(), DefFault>
+    ensures { result ≡ all_in_range (feature_ranges machining.now) }
 {
-    match job {
-        Job::DrillHole { diameter, .. } => all_in_range(&[sized(diameter)]),
-        Job::MillFace { face, .. } => all_in_range(&[sized(&face.length), sized(&face.width)]),
-        Job::MillPocket {
+    match machining {
+        Machining::DrillHole { diameter, .. } => all_in_range(&[sized(diameter)]),
+        Machining::MillFace { face, .. } => all_in_range(&[
+            sized(&face.length),
+            sized(&face.width),
+        ]),
+        Machining::MillPocket {
             area: Area::Centred { length, width },
             ..
         } => all_in_range(&[sized(length), sized(width)]),
-        Job::MillPocket {
+        Machining::MillPocket {
             area: Area::Cornered(points),
             ..
         } => corners_check(points),
     }
 }
 
-fn cut_check(walk: &Walk) -> Result<(), DefFault>
-    ensures { result ≡ all_in_range (cut_ranges walk.now) }
+fn cut_check(lookup: &Lookup) -> Result<(), DefFault>
+    ensures { result ≡ all_in_range (cut_ranges lookup.now) }
 {
     all_in_range(&[
-        between_if(0, MAX_VALUE, &walk.cut.retract),
-        sized(&walk.cut.feed),
-        sized(&walk.cut.spindle),
+        between_if(0, MAX_VALUE, &lookup.technology.retract),
+        sized(&lookup.technology.feed),
+        sized(&lookup.technology.spindle),
     ])
 }
 
-fn operation_ranges_check(walk: &Walk, job: &Job) -> Result<(), DefFault>
-    requires { IsTrue (is_sized walk.now.floor.point.z) }
-    ensures { result ≡ all_in_range (operation_ranges walk.now job.now) }
+fn operation_ranges_check(lookup: &Lookup, machining: &Machining) -> Result<(), DefFault>
+    requires { IsTrue (is_sized lookup.now.floor.point.z) }
+    ensures { result ≡ all_in_range (operation_ranges lookup.now machining.now) }
 {
-    match job {
-        Job::DrillHole { dwell, .. } => all_in_range(&[between_if(0, MAX_VALUE, dwell)]),
-        Job::MillFace { cut, .. } => all_in_range(&[
+    match machining {
+        Machining::DrillHole { dwell, .. } => all_in_range(&[between_if(0, MAX_VALUE, dwell)]),
+        Machining::MillFace { cut, .. } => all_in_range(&[
             sized(&cut.diameter),
             between_if(0, 999, &cut.strategy.overlap),
             between_if(-MAX_VALUE, MAX_VALUE, &cut.axial),
-            shallower_if(walk, &cut.bottom),
+            shallower_if(lookup, &cut.bottom),
         ]),
-        Job::MillPocket { cut, .. } => all_in_range(&[
+        Machining::MillPocket { cut, .. } => all_in_range(&[
             sized(&cut.diameter),
             between_if(-MAX_VALUE, MAX_VALUE, &cut.axial),
             between_if(-MAX_VALUE, MAX_VALUE, &cut.radial),
             between_if(0, MAX_VALUE, &cut.side),
-            shallower_if(walk, &cut.bottom),
+            shallower_if(lookup, &cut.bottom),
         ]),
     }
 }
 
-/// The first number of the walk that is out of its range, if one is.
+/// The first number of the lookup that is out of its range, if one is.
 #[tactic(auto, unfolding(crate::specs::Faults::ranges_check))]
-pub(crate) fn ranges_check(walk: &Walk, job: &Job) -> Result<(), DefFault>
-    ensures { result ≡ ranges_check walk.now job.now }
+pub(crate) fn ranges_check(lookup: &Lookup, machining: &Machining) -> Result<(), DefFault>
+    ensures { result ≡ ranges_check lookup.now machining.now }
 {
-    place_check(walk)?;
-    feature_ranges_check(job)?;
-    cut_check(walk)?;
-    operation_ranges_check(walk, job)
+    place_check(lookup)?;
+    feature_ranges_check(machining)?;
+    cut_check(lookup)?;
+    operation_ranges_check(lookup, machining)
 }

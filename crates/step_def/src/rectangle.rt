@@ -10,8 +10,8 @@ ghost use Rattle.step_def.specs.Numbers.{has_room, rectangle_of};
 ghost use Rattle.step_def.specs.Sides.{rectangle_with};
 ghost use Rattle.step_def.specs.Facts.{AreaFacts, CornersFacts, PlaceFacts, RectangleWithin, SidesFacts};
 
+use crate::attributes::{Area, Coordinates, CornerPoints, Lookup, Outline, Quantity, Sides};
 use crate::fault::DefFault;
-use crate::found::{Area, Coordinates, CornerPoints, Figure, Outline, Sides, Walk};
 
 /// Whether the side between these points runs along x and isn't zero.
 fn runs_along_x(from: &Coordinates, to: &Coordinates) -> bool
@@ -85,7 +85,7 @@ pub(crate) fn area_of(outline: &Outline) -> Result<Area, DefFault>
 }
 
 /// Where a side of this length begins, which is centred on a place.
-fn centred_from(at: &i64, length: &Figure) -> i64
+fn centred_from(at: &i64, length: &Quantity) -> i64
     requires at { IsTrue (is_sized at.now) }
     requires length { IsTrue (is_sized length.now.value) }
     ensures exact { result ≡ at.now -ℤ pos (unsigned_abs length.now.value / 2) }
@@ -95,7 +95,7 @@ fn centred_from(at: &i64, length: &Figure) -> i64
 }
 
 /// Where it ends.
-fn centred_to(at: &i64, length: &Figure) -> i64
+fn centred_to(at: &i64, length: &Quantity) -> i64
     requires at { IsTrue (is_sized at.now) }
     requires length { IsTrue (is_sized length.now.value) }
     requires long { IsTrue (is_positive length.now.value) }
@@ -128,13 +128,13 @@ fn greater_from(at: &i64, a: &i64, b: &i64) -> i64
 }
 
 /// The rectangle with sides of these lengths that is centred on the placement.
-fn centred(walk: &Walk, length: &Figure, width: &Figure) -> Sides
-    requires place { PlaceFacts walk.now }
+fn centred(lookup: &Lookup, length: &Quantity, width: &Quantity) -> Sides
+    requires place { PlaceFacts lookup.now }
     requires sides { SidesFacts length.now width.now }
-    ensures exact { rectangle_with result ≡ rectangle_of walk.now (Area.Centred length.now width.now) }
+    ensures exact { rectangle_with result ≡ rectangle_of lookup.now (Area.Centred length.now width.now) }
     ensures within { RectangleWithin (rectangle_with result) }
 {
-    let at = &walk.placement.point;
+    let at = &lookup.placement.point;
     Sides {
         left: centred_from(&at.x, length),
         low: centred_from(&at.y, width),
@@ -144,13 +144,13 @@ fn centred(walk: &Walk, length: &Figure, width: &Figure) -> Sides
 }
 
 /// The rectangle whose corners these are, from the placement.
-fn cornered(walk: &Walk, p: &CornerPoints) -> Sides
-    requires place { PlaceFacts walk.now }
+fn cornered(lookup: &Lookup, p: &CornerPoints) -> Sides
+    requires place { PlaceFacts lookup.now }
     requires corners { CornersFacts p.now }
-    ensures exact { rectangle_with result ≡ rectangle_of walk.now (Area.Cornered p.now) }
+    ensures exact { rectangle_with result ≡ rectangle_of lookup.now (Area.Cornered p.now) }
     ensures within { RectangleWithin (rectangle_with result) }
 {
-    let at = &walk.placement.point;
+    let at = &lookup.placement.point;
     Sides {
         left: lesser_from(&at.x, &p.first.x, &p.third.x),
         low: lesser_from(&at.y, &p.first.y, &p.third.y),
@@ -160,15 +160,15 @@ fn cornered(walk: &Walk, p: &CornerPoints) -> Sides
 }
 
 /// The rectangle of a pocket.
-pub(crate) fn rectangle_of(walk: &Walk, area: &Area) -> Sides
-    requires place { PlaceFacts walk.now }
+pub(crate) fn rectangle_of(lookup: &Lookup, area: &Area) -> Sides
+    requires place { PlaceFacts lookup.now }
     requires area { AreaFacts area.now }
-    ensures exact { rectangle_with result ≡ rectangle_of walk.now area.now }
+    ensures exact { rectangle_with result ≡ rectangle_of lookup.now area.now }
     ensures within { RectangleWithin (rectangle_with result) }
 {
     match area {
-        Area::Centred { length, width } => centred(walk, length, width),
-        Area::Cornered(p) => cornered(walk, p),
+        Area::Centred { length, width } => centred(lookup, length, width),
+        Area::Cornered(p) => cornered(lookup, p),
     }
 }
 

@@ -3,7 +3,7 @@
 ghost use Rattle.std.specs.Prelude.{◌≡◌, option_map};
 ghost use Rattle.entity_types.specs.Entity.{field_of};
 ghost use Rattle.step_def.specs.Steps.{Gives};
-ghost use Rattle.step_def.specs.Walk.{referred, is_of, is_absent, instance_at, class_at};
+ghost use Rattle.step_def.specs.Lookup.{referred, is_of, is_absent, instance_at, class_at};
 
 use crate::fault::DefFault;
 use entity_types::{Class, Entity, Field};
@@ -42,7 +42,7 @@ pub(crate) fn is_absent(entity: &Entity, position: u8) -> bool
 }
 
 /// The instance that a position refers to, of any class.
-#[tactic(auto, unfolding(crate::specs::Walk::instance_at))]
+#[tactic(auto, unfolding(crate::specs::Lookup::instance_at))]
 pub(crate) fn instance_at<'a, E: Entities>(
     from: &'a E,
     n: Number,
@@ -58,7 +58,7 @@ pub(crate) fn instance_at<'a, E: Entities>(
 }
 
 /// The instance that a position refers to, which has to be of the class.
-#[tactic(auto, unfolding(crate::specs::Walk::class_at))]
+#[tactic(auto, unfolding(crate::specs::Lookup::class_at))]
 pub(crate) fn class_at<'a, E: Entities>(
     from: &'a E,
     n: Number,

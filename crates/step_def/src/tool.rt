@@ -2,10 +2,10 @@
 
 ghost use Rattle.std.specs.Prelude.{◌≡◌};
 ghost use Rattle.step_def.specs.Steps.{Gives};
-ghost use Rattle.step_def.specs.Walk.{class_at, cut_of, diameter_at, is_tool_body, kind_at};
+ghost use Rattle.step_def.specs.Lookup.{class_at, technology_of, diameter_at, is_tool_body, kind_at};
 
+use crate::attributes::{Quantity, Technology};
 use crate::fault::DefFault;
-use crate::found::{Cut, Figure};
 use crate::number::{free_length_at, length_at, number_at};
 use crate::reference::{class_at, referred};
 use entity_types::{Class, Entity};
@@ -13,16 +13,20 @@ use nc_base::Number;
 use project_store::Entities;
 
 /// What every operation has: a retract, a tool, a feed and a spindle speed.
-#[tactic(auto, unfolding(crate::specs::Walk::cut_of))]
-pub(crate) fn cut_of<E: Entities>(from: &E, n: Number, operation: &Entity) -> Result<Cut, DefFault>
-    ensures { result ≡ cut_of (E.entities from.now) (n, operation.now) }
+#[tactic(auto, unfolding(crate::specs::Lookup::technology_of))]
+pub(crate) fn technology_of<E: Entities>(
+    from: &E,
+    n: Number,
+    operation: &Entity,
+) -> Result<Technology, DefFault>
+    ensures { result ≡ technology_of (E.entities from.now) (n, operation.now) }
 {
     let retract = free_length_at(from, n, operation, 4)?;
     let (tool, _) = class_at(from, n, operation, 6, Class::MillingCuttingTool)?;
     let (number, technology) = class_at(from, n, operation, 7, Class::MillingTechnology)?;
     let feed = number_at(number, technology, 1)?;
     let spindle = number_at(number, technology, 4)?;
-    Ok(Cut {
+    Ok(Technology {
         retract,
         tool,
         feed,
@@ -34,11 +38,10 @@ pub(crate) fn cut_of<E: Entities>(from: &E, n: Number, operation: &Entity) -> Re
 fn is_tool_body(body: &Entity) -> bool
     ensures { result ≡ is_tool_body body.now }
 {
-    let code = body.class.code();
-    53 <= code && code <= 57
+    body.class.is_between(Class::Endmill, Class::TwistDrill)
 }
 
-#[tactic(auto, unfolding(crate::specs::Walk::kind_at))]
+#[tactic(auto, unfolding(crate::specs::Lookup::kind_at))]
 fn tool_body_at<'a, E: Entities>(
     from: &'a E,
     n: Number,
@@ -54,12 +57,12 @@ fn tool_body_at<'a, E: Entities>(
 }
 
 /// The diameter of the tool of a milling operation.
-#[tactic(auto, unfolding(crate::specs::Walk::diameter_at))]
+#[tactic(auto, unfolding(crate::specs::Lookup::diameter_at))]
 pub(crate) fn diameter_at<E: Entities>(
     from: &E,
     n: Number,
     operation: &Entity,
-) -> Result<Figure, DefFault>
+) -> Result<Quantity, DefFault>
     ensures { result ≡ diameter_at (E.entities from.now) (n, operation.now) }
 {
     let (tool, tool_entity) = class_at(from, n, operation, 6, Class::MillingCuttingTool)?;

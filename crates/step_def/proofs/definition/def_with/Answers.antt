@@ -29,51 +29,51 @@ too_many n count result x e h =
     rw (sym e, no) refl
 
 pub bottom_of-bottom-requires : goal.bottom_of-bottom-requires
-bottom_of-bottom-requires c = facts_of c.args.walk.now c.args.job.now c.requires.job
+bottom_of-bottom-requires c = facts_of c.args.lookup.now c.args.machining.now c.requires.machining
 
 pub axial_of-axial-requires : goal.axial_of-axial-requires
-axial_of-axial-requires c = (facts_of c.args.walk.now c.args.job.now c.requires.job).place
+axial_of-axial-requires c = (facts_of c.args.lookup.now c.args.machining.now c.requires.machining).place
 
 pub retract_height-requires : goal.retract_height-requires
-retract_height-requires c = (facts_of c.args.walk.now c.args.job.now c.requires.job).place
+retract_height-requires c = (facts_of c.args.lookup.now c.args.machining.now c.requires.machining).place
 
-z0_is : (c : After-axial_of-axial) → to_z w64 (of_z w64 c.args.walk.now.placement.point.z) ≡ (numbers_with c.args.walk.now c.args.job.now c.args.shape.now).z0
+z0_is : (c : After-axial_of-axial) → to_z w64 (of_z w64 c.args.lookup.now.placement.point.z) ≡ (numbers_with c.args.lookup.now c.args.machining.now c.args.shape.now).z0
 z0_is c =
-    let f : FitsSigned w64 c.args.walk.now.placement.point.z = search rules in
-    back c.args.walk.now.placement.point.z f
+    let f : FitsSigned w64 c.args.lookup.now.placement.point.z = search rules in
+    back c.args.lookup.now.placement.point.z f
 
-bottom_is : (c : After-axial_of-axial) → to_z w64 (of_z w64 c.bottom_of-bottom.result) ≡ (numbers_with c.args.walk.now c.args.job.now c.args.shape.now).bottom
+bottom_is : (c : After-axial_of-axial) → to_z w64 (of_z w64 c.bottom_of-bottom.result) ≡ (numbers_with c.args.lookup.now c.args.machining.now c.args.shape.now).bottom
 bottom_is c =
     let f : FitsSigned w64 c.bottom_of-bottom.result = search rules in
     back c.bottom_of-bottom.result f ∙ c.bottom_of-bottom.ensures
 
-axial_is : (c : After-axial_of-axial) → to_z w64 (of_z w64 c.axial_of-axial.result) ≡ (numbers_with c.args.walk.now c.args.job.now c.args.shape.now).axial
+axial_is : (c : After-axial_of-axial) → to_z w64 (of_z w64 c.axial_of-axial.result) ≡ (numbers_with c.args.lookup.now c.args.machining.now c.args.shape.now).axial
 axial_is c =
     let f : FitsSigned w64 c.axial_of-axial.result = search rules in
     back c.axial_of-axial.result f ∙ c.axial_of-axial.ensures
 
 pub block_count-count-requires-clause-upper : goal.block_count-count-requires-clause-upper
 block_count-count-requires-clause-upper c =
-    subst (λ (z : ℤ). IsTrue (is_within z)) (sym (z0_is (goal.at.block_count-count-requires-clause-upper c).After-axial_of-axial)) (z_in c.args.walk.now c.args.job.now (facts_of c.args.walk.now c.args.job.now c.requires.job))
+    subst (λ (z : ℤ). IsTrue (is_within z)) (sym (z0_is (goal.at.block_count-count-requires-clause-upper c).After-axial_of-axial)) (z_in c.args.lookup.now c.args.machining.now (facts_of c.args.lookup.now c.args.machining.now c.requires.machining))
 
 pub block_count-count-requires-clause-lower : goal.block_count-count-requires-clause-lower
 block_count-count-requires-clause-lower c =
-    subst (λ (z : ℤ). IsTrue (is_within z)) (sym (bottom_is (goal.at.block_count-count-requires-clause-lower c).After-axial_of-axial)) (bottom_in c.args.walk.now c.args.job.now (facts_of c.args.walk.now c.args.job.now c.requires.job))
+    subst (λ (z : ℤ). IsTrue (is_within z)) (sym (bottom_is (goal.at.block_count-count-requires-clause-lower c).After-axial_of-axial)) (bottom_in c.args.lookup.now c.args.machining.now (facts_of c.args.lookup.now c.args.machining.now c.requires.machining))
 
 pub block_count-count-requires-clause-downwards : goal.block_count-count-requires-clause-downwards
 block_count-count-requires-clause-downwards c =
     let s = (goal.at.block_count-count-requires-clause-downwards c).After-axial_of-axial in
     subst (λ (z : ℤ). to_z w64 (of_z w64 c.bottom_of-bottom.result) <ℤ z) (sym (z0_is s))
-    (subst (λ (z : ℤ). z <ℤ c.args.walk.now.placement.point.z) (sym (bottom_is s)) (bottom_under c.args.walk.now c.args.job.now (facts_of c.args.walk.now c.args.job.now c.requires.job)))
+    (subst (λ (z : ℤ). z <ℤ c.args.lookup.now.placement.point.z) (sym (bottom_is s)) (bottom_under c.args.lookup.now c.args.machining.now (facts_of c.args.lookup.now c.args.machining.now c.requires.machining)))
 
 pub block_count-count-requires-clause-cuts : goal.block_count-count-requires-clause-cuts
 block_count-count-requires-clause-cuts c =
-    subst (λ (z : ℤ). IsTrue (is_positive z)) (sym (axial_is (goal.at.block_count-count-requires-clause-cuts c).After-axial_of-axial)) (axial_up c.args.walk.now c.args.job.now (facts_of c.args.walk.now c.args.job.now c.requires.job))
+    subst (λ (z : ℤ). IsTrue (is_positive z)) (sym (axial_is (goal.at.block_count-count-requires-clause-cuts c).After-axial_of-axial)) (axial_up c.args.lookup.now c.args.machining.now (facts_of c.args.lookup.now c.args.machining.now c.requires.machining))
 
 pub block_count-count-requires-clause-shaped : goal.block_count-count-requires-clause-shaped
 block_count-count-requires-clause-shaped c =
-    let facts = facts_of c.args.walk.now c.args.job.now c.requires.job in
-    shaped c.args.walk.now c.args.job.now c.args.shape.now facts.place facts.made c.requires.shape
+    let facts = facts_of c.args.lookup.now c.args.machining.now c.requires.machining in
+    shaped c.args.lookup.now c.args.machining.now c.args.shape.now facts.place facts.made c.requires.shape
 
 -- the count of the code is that of the numbers
 abbrev count_of : Numbers → ℕ
@@ -83,31 +83,31 @@ count_same : (x : Numbers) (result : ℕ) (z0 bottom axial : ℤ) → result ≡
 count_same x result z0 bottom axial e p q r =
     e ∙ ap (λ (z : ℤ). block_count z bottom axial x.shape) p ∙ ap (λ (z : ℤ). block_count x.z0 z axial x.shape) q ∙ ap (λ (z : ℤ). block_count x.z0 x.bottom z x.shape) r
 
-counted : (c : After-block_count-count) → c.block_count-count.result ≡ count_of (numbers_with c.args.walk.now c.args.job.now c.args.shape.now)
+counted : (c : After-block_count-count) → c.block_count-count.result ≡ count_of (numbers_with c.args.lookup.now c.args.machining.now c.args.shape.now)
 counted c =
-    let z0 : FitsSigned w64 c.args.walk.now.placement.point.z = search rules in
+    let z0 : FitsSigned w64 c.args.lookup.now.placement.point.z = search rules in
     let bottom : FitsSigned w64 c.bottom_of-bottom.result = search rules in
     let axial : FitsSigned w64 c.axial_of-axial.result = search rules in
-    count_same (numbers_with c.args.walk.now c.args.job.now c.args.shape.now) c.block_count-count.result _ _ _ c.block_count-count.ensures.count
-    (back c.args.walk.now.placement.point.z z0) (back c.bottom_of-bottom.result bottom ∙ c.bottom_of-bottom.ensures) (back c.axial_of-axial.result axial ∙ c.axial_of-axial.ensures)
+    count_same (numbers_with c.args.lookup.now c.args.machining.now c.args.shape.now) c.block_count-count.result _ _ _ c.block_count-count.ensures.count
+    (back c.args.lookup.now.placement.point.z z0) (back c.bottom_of-bottom.result bottom ∙ c.bottom_of-bottom.ensures) (back c.axial_of-axial.result axial ∙ c.axial_of-axial.ensures)
 
 pub returns-then-count-gt-MAX_BLOCKS : goal.returns-then-count-gt-MAX_BLOCKS
 returns-then-count-gt-MAX_BLOCKS c =
-    let x : Numbers = numbers_with c.args.walk.now c.args.job.now c.args.shape.now in
+    let x : Numbers = numbers_with c.args.lookup.now c.args.machining.now c.args.shape.now in
     too_many c.args.n (count_of x) c.block_count-count.result x (counted (goal.at.returns-then-count-gt-MAX_BLOCKS c).After-block_count-count) c.if-count-gt-MAX_BLOCKS.true
 
 pub invariant_of-result : goal.invariant_of-result
 invariant_of-result c =
-    let spindle : FitsSigned w64 c.args.walk.now.cut.spindle.value = search rules in
-    let feed : FitsSigned w64 c.args.walk.now.cut.feed.value = search rules in
-    let sec : FitsSigned w64 c.args.walk.now.security.point.z = search rules in
+    let spindle : FitsSigned w64 c.args.lookup.now.technology.spindle.value = search rules in
+    let feed : FitsSigned w64 c.args.lookup.now.technology.feed.value = search rules in
+    let sec : FitsSigned w64 c.args.lookup.now.security.point.z = search rules in
     let ret : FitsSigned w64 c.retract_height.result = search rules in
-    let z0 : FitsSigned w64 c.args.walk.now.placement.point.z = search rules in
+    let z0 : FitsSigned w64 c.args.lookup.now.placement.point.z = search rules in
     let bottom : FitsSigned w64 c.bottom_of-bottom.result = search rules in
     let axial : FitsSigned w64 c.axial_of-axial.result = search rules in
-    let x : Numbers = numbers_with c.args.walk.now c.args.job.now c.args.shape.now in
+    let x : Numbers = numbers_with c.args.lookup.now c.args.machining.now c.args.shape.now in
     let few : nat_le (count_of x) 20000 ≡ true = subst (λ (n : ℕ). nat_le n 20000 ≡ true) (counted (goal.at.invariant_of-result c).After-block_count-count) (is_le c.block_count-count.result c.if-count-gt-MAX_BLOCKS.false) in
-    let all : KeepsRanges x = keeps c.args.walk.now c.args.job.now c.args.shape.now (facts_of c.args.walk.now c.args.job.now c.requires.job) c.requires.shape few in
+    let all : KeepsRanges x = keeps c.args.lookup.now c.args.machining.now c.args.shape.now (facts_of c.args.lookup.now c.args.machining.now c.requires.machining) c.requires.shape few in
     record {
       within = within_same x all _ _ _ _ _ _ _ (back _ spindle) (back _ feed) (back _ sec) (back _ ret ∙ c.retract_height.ensures) (back _ z0) (back _ bottom ∙ c.bottom_of-bottom.ensures) (back _ axial ∙ c.axial_of-axial.ensures);
       feeds = feeds_same x all _ (back _ feed);

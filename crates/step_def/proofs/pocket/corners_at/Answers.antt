@@ -1,6 +1,6 @@
 use Rattle.std.proofs.Common.{◌≡◌, ◌∙◌, sym, refl, ℕ, ◌<◌, ◌≤◌, List, [], ◌∷◌, length, get_or, Option, arith}
 use Rattle.entity_types.specs.declared.entity.Entity.{Entity}
-use Rattle.step_def.specs.Walk.{corners_at, five_corners, four_corners, points_alone}
+use Rattle.step_def.specs.Lookup.{corners_at, five_corners, four_corners, points_alone}
 use Rattle.step_def.proofs.pocket.corners_at.Goals as goal
 
 corners_four : (from : ℕ → Option Entity) (n : ℕ) (xs : List ℕ) → 4 ≤ length xs → length xs < 5 → corners_at from n xs ≡ four_corners from n (get_or xs 0 0) (get_or xs 1 0) (get_or xs 2 0) (get_or xs 3 0)

@@ -1,5 +1,5 @@
 use Rattle.std.proofs.Common.{◌≡◌, drop}
-use Rattle.step_def.specs.Walk.{points_alone}
+use Rattle.step_def.specs.Lookup.{points_alone}
 use Rattle.step_def.proofs.pocket.points_alone.Given as goal
 
 abbrev pub invariant-loop-number : goal.invariant-loop-number
