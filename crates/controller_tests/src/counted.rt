@@ -3,11 +3,11 @@
 ghost use Rattle.std.specs.Prelude.{◌≡◌, ℕ, ◌≤◌, ◌<◌, List, [], length, Option};
 ghost use Rattle.nc_outside.specs.Outside.{Rose, Appends};
 
-use crate::asked::{PATH, REPLAY, files_with, hole_with, texts};
+use crate::asked::{PATH, REPLAY, files_with, status_of, texts, top_status_of};
 use crate::projects::{HOLE, PLATE};
-use controller::{Status, quick, top};
+use controller::Status;
 use nc_base::{NcText, NoMemory};
-use nc_outside::{Failed, FileErr, Files, FreeGate, MemoryFiles, MemorySink, Sink};
+use nc_outside::{Failed, FileErr, Files, MemoryFiles, MemorySink, Sink};
 use std::alloc::Global;
 use std::process::Abort;
 use std::test::Fail;
@@ -95,6 +95,20 @@ fn counted_sink(alloc: Global) -> Result<CountedSink<MemorySink>, NoMemory> {
     })
 }
 
+/// How many reads were of the wanted names in their order and of others, and how many pieces were a line and not, where the words are
+/// asked of files with this text in `plate.stp`.
+fn counts(
+    alloc: Global,
+    text: &str,
+    words: &[&str],
+    names: &[&str],
+) -> Result<([usize; 2], [u32; 2]), NoMemory> {
+    let mut files = counted_files(alloc, text, names)?;
+    let mut sink = counted_sink(alloc)?;
+    status_of(alloc, words, &mut files, &mut sink)?;
+    Ok(([files.in_order, files.strays], [sink.lines, sink.others]))
+}
+
 /// Stops unless each name is read once, in this order, and no other.
 fn expect_reads(
     rt: &impl Abort,
@@ -103,12 +117,8 @@ fn expect_reads(
     words: &[&str],
     names: &[&str],
 ) -> Result<(), Fail> {
-    let words = texts(alloc, words)?;
-    let mut files = counted_files(alloc, text, names)?;
-    let mut sink = MemorySink::new(alloc, 100_000)?;
-    quick(alloc, words.as_slice(), &mut files, &mut sink);
-    assert_eq!(rt; files.in_order, names.len());
-    assert_eq!(rt; files.strays, 0);
+    let (reads, _) = counts(alloc, text, words, names)?;
+    assert_eq!(rt; reads, [names.len(), 0], "of {words:?}");
     Ok(())
 }
 
@@ -120,12 +130,8 @@ fn expect_pieces(
     words: &[&str],
     count: u32,
 ) -> Result<(), Fail> {
-    let words = texts(alloc, words)?;
-    let mut files = files_with(alloc, text)?;
-    let mut sink = counted_sink(alloc)?;
-    quick(alloc, words.as_slice(), &mut files, &mut sink);
-    assert_eq!(rt; sink.lines, count);
-    assert_eq!(rt; sink.others, 0);
+    let (_, pieces) = counts(alloc, text, words, &[])?;
+    assert_eq!(rt; pieces, [count, 0], "of {words:?}");
     Ok(())
 }
 
@@ -160,7 +166,7 @@ const REFUSED: [(&str, &str); 5] = [
 ];
 
 fn expect_refused_reads(rt: &impl Abort, alloc: Global, old: &str, new: &str) -> Result<(), Fail> {
-    let text = hole_with(alloc, old, new)?;
+    let text = HOLE.replace(alloc, old, new)?;
     expect_reads(rt, alloc, &text, &REPLAY, &["plate.stp"])?;
     expect_reads(rt, alloc, &text, &PATH, &["plate.stp"])?;
     expect_pieces(rt, alloc, &text, &REPLAY, 1)
@@ -174,17 +180,19 @@ fn a_refused_file_is_read_once_and_gives_one_line(rt: HostRuntime) -> Result<(),
     Ok(())
 }
 
+/// What `plate.stp` holds, words, and how many lines they write.
+const LINES: [(&str, &[&str], u32); 6] = [
+    (HOLE, &REPLAY, 10),
+    (HOLE, &["replay", "plate.stp", "-", "-", "3"], 5),
+    (HOLE, &PATH, 6),
+    (PLATE, &["path", "plate.stp", "13"], 88),
+    (HOLE, &["path", "plate.stp", "20"], 1),
+    (HOLE, &["fly"], 1),
+];
+
 #[test]
 fn each_line_is_one_piece(rt: HostRuntime) -> Result<(), Fail> {
-    let rows: [(&str, &[&str], u32); 6] = [
-        (HOLE, &REPLAY, 10),
-        (HOLE, &["replay", "plate.stp", "-", "-", "3"], 5),
-        (HOLE, &PATH, 6),
-        (PLATE, &["path", "plate.stp", "13"], 88),
-        (HOLE, &["path", "plate.stp", "20"], 1),
-        (HOLE, &["fly"], 1),
-    ];
-    for (text, words, count) in rows {
+    for (text, words, count) in LINES {
         expect_pieces(&rt, rt.alloc(), text, words, count)?;
     }
     Ok(())
@@ -192,10 +200,9 @@ fn each_line_is_one_piece(rt: HostRuntime) -> Result<(), Fail> {
 
 #[test]
 fn top_reads_once_too(rt: HostRuntime) -> Result<(), Fail> {
-    let words = texts(rt.alloc(), &REPLAY)?;
     let mut files = counted_files(rt.alloc(), HOLE, &["plate.stp"])?;
     let mut sink = counted_sink(rt.alloc())?;
-    let status = top(&rt, words.as_slice(), &mut files, &mut sink, &FreeGate);
+    let status = top_status_of(rt, &REPLAY, &mut files, &mut sink)?;
     assert_eq!(rt; status, Status::Done);
     assert_eq!(rt; (files.in_order, files.strays), (1, 0));
     assert_eq!(rt; (sink.lines, sink.others), (10, 0));

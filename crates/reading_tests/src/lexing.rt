@@ -1,5 +1,6 @@
 //! The tokens of texts, whole and slice by slice.
 
+use crate::shared::expect;
 use LexErr::{BadByte, BadName, NumberTooLong, OpenComment, OpenString};
 use TokenKind::{
     Binary, Close, Comma, Dollar, Enumeration, Equals, Int, Name, Open, Real, Semicolon, Star,
@@ -305,12 +306,24 @@ fn names(rt: HostRuntime) {
     }
 }
 
+// Texts that stand at byte 7, and the piece that each begins with.
+const PIECES: [(&[u8], Result<Piece, LexErr>); 3] = [
+    (b".T.", Ok(Piece::Spelling(Enumeration, 3))),
+    (b" ", Ok(Piece::Gap(1))),
+    (b"?", Err(BadByte(7))),
+];
+
 #[test]
 fn pieces(rt: HostRuntime) {
-    assert_eq!(rt; next_piece(7, b".T."), Ok(Piece::Spelling(Enumeration, 3)));
-    assert_eq!(rt; next_piece(7, b" "), Ok(Piece::Gap(1)));
-    assert_eq!(rt; next_piece(7, b"?"), Err(BadByte(7)));
-    assert_eq!(rt; spells(Int, b"5 "), false);
+    for (text, piece) in PIECES {
+        expect(&rt, next_piece(7, text), piece);
+    }
+    expect(&rt, spells(Int, b"5 "), false);
+}
+
+#[test]
+fn laws_of_tokens_can_be_cited() {
+    reading_laws();
 }
 
 #[test]
@@ -318,7 +331,6 @@ fn tokens_fit_their_text(rt: HostRuntime) -> Result<(), Fail> {
     let text = b"#2147483647 #00120";
     let found = tokens(rt.alloc(), text).ok().ok_or("two names")?;
     tokens_fit(text, &found);
-    reading_laws();
     assert_eq!(rt; found.len(), 2);
     Ok(())
 }

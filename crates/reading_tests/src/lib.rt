@@ -6,6 +6,8 @@ mod building;
 #[cfg(test)]
 mod lexing;
 #[cfg(test)]
+mod made;
+#[cfg(test)]
 mod measuring;
 #[cfg(test)]
 mod printing;

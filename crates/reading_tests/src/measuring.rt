@@ -116,10 +116,14 @@ fn edges(rt: HostRuntime) {
 }
 
 #[test]
-fn limits(rt: HostRuntime) {
+fn laws_of_numbers_can_be_cited() {
     one_reading();
     half_up();
     number_laws();
+}
+
+#[test]
+fn limits(rt: HostRuntime) {
     assert_eq!(rt; MAX_THOUSANDTHS, 1_000_000_000_000_000);
     assert_eq!(rt; MAX_DIGITS, 38);
 }

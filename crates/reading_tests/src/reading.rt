@@ -1,10 +1,11 @@
 //! Texts that are read as exchanges, or refused.
 
-use crate::shared::{HEAD, TAIL, joined, read_text};
+use crate::shared::{HEAD, TAIL, expect, joined, read_text};
 use ReadErr::{Duplicate, Lex, Syntax, TooDeep, TooMany};
 use p21_lex::LexErr::{BadByte, BadName, NumberTooLong, OpenString};
 use p21_parse::{
-    Instance, MAX_INSTANCES, Param, ParamList, ReadErr, grammar_laws, instance_laws, text_laws,
+    Instance, MAX_INSTANCES, Param, ParamList, Part, ReadErr, grammar_laws, instance_laws,
+    text_laws,
 };
 use std::alloc::Global;
 use std::process::Abort;
@@ -342,6 +343,12 @@ fn stepped(alloc: Global, first: u32, step: u32, count: u32) -> Result<Vec<u8>, 
     Ok(text)
 }
 
+// How many entries of the header and how many instances a text has, or why it is refused.
+fn sizes_of(rt: &impl Abort, alloc: Global, text: &[u8]) -> Result<(u32, u32), ReadErr> {
+    let exchange = read_text(rt, alloc, text)?;
+    Ok((exchange.head.len(), exchange.items.len()))
+}
+
 fn expect_refusal(
     rt: &impl Abort,
     alloc: Global,
@@ -349,8 +356,8 @@ fn expect_refusal(
     want: Option<ReadErr>,
 ) -> Result<(), Fail> {
     let text = joined(alloc, pieces)?;
-    let answer = read_text(rt, alloc, text.as_slice());
-    assert_eq!(rt; answer.err(), want, "of {} bytes", text.len());
+    let refusal = sizes_of(rt, alloc, text.as_slice()).err();
+    assert_eq!(rt; refusal, want, "of {} bytes", text.len());
     Ok(())
 }
 
@@ -386,26 +393,25 @@ fn files_have_at_most_200_000_instances(rt: HostRuntime) -> Result<(), Fail> {
     Ok(())
 }
 
-fn expect_count(
+fn expect_sizes(
     rt: &impl Abort,
     alloc: Global,
     pieces: &[(&[u8], u32)],
-    want: u32,
+    want: (u32, u32),
 ) -> Result<(), Fail> {
     let text = joined(alloc, pieces)?;
-    let exchange = read_text(rt, alloc, text.as_slice())?;
-    assert_eq!(rt; exchange.items.len(), want);
+    expect(rt, sizes_of(rt, alloc, text.as_slice()), Ok(want));
     Ok(())
 }
 
 #[test]
 fn files_of_200_000_instances_have_them_all(rt: HostRuntime) -> Result<(), Fail> {
     let front = stepped(rt.alloc(), 100_001, 1, MAX_INSTANCES as u32 - 1)?;
-    expect_count(
+    expect_sizes(
         &rt,
         rt.alloc(),
         &[(HEAD, 1), (&front, 1), (b"#300000=A();", 1), (TAIL, 1)],
-        MAX_INSTANCES as u32,
+        (3, MAX_INSTANCES as u32),
     )
 }
 
@@ -474,51 +480,67 @@ fn a_number_is_found_wherever_it_stands_again(rt: HostRuntime) -> Result<(), Fai
 }
 
 #[test]
-fn instances_are_read(rt: HostRuntime) -> Result<(), Fail> {
-    let hole = read_text(&rt, rt.alloc(), DRILLED_HOLE)?;
-    assert_eq!(rt; hole.head.len(), 3);
-    assert_eq!(rt; hole.items.len(), 17);
-    let plate = read_text(&rt, rt.alloc(), PLATE)?;
-    assert_eq!(rt; plate.head.len(), 3);
-    assert_eq!(rt; plate.items.len(), 59);
-    let [_, plan, _, _, context, ..] = plate.items.as_slice() else {
-        panic!(rt; "no plan")
-    };
-    assert_eq!(rt; plan.number, 2);
-    assert!(rt; !plan.complex);
-    let [part] = plan.parts.as_slice() else {
-        panic!(rt; "not one part")
-    };
-    assert_eq!(rt; part.keyword.bytes(), b"WORKPLAN".as_slice());
+fn files_have_their_entries_and_instances(rt: HostRuntime) -> Result<(), Fail> {
+    for (text, instances) in [(DRILLED_HOLE, 17), (PLATE, 59)] {
+        expect_sizes(&rt, rt.alloc(), &[(text, 1)], (3, instances))?;
+    }
+    Ok(())
+}
+
+fn is_keyword(part: &Part, keyword: &[u8]) -> bool {
+    part.keyword.bytes() == keyword
+}
+
+// Four elements, of which the last is #13.
+fn are_elements(params: &[Param]) -> bool {
+    matches!(params, [_, _, _, Param::Reference(13)])
+}
+
+fn are_of_plan(params: &[Param]) -> bool {
     let [
         Param::Text(text),
         Param::List(steps),
         Param::Unset,
         Param::Reference(8),
         Param::Unset,
-    ] = part.parameters.as_slice()
+    ] = params
     else {
-        panic!(rt; "other parameters")
+        return false;
     };
-    assert_eq!(rt; text.bytes(), b"MAIN WORKPLAN".as_slice());
-    assert_eq!(rt; steps.len(), 4);
-    let [_, _, _, Param::Reference(13)] = steps.as_slice() else {
-        panic!(rt; "other steps")
+    text.bytes() == b"MAIN WORKPLAN".as_slice() && are_elements(steps.as_slice())
+}
+
+// The main workplan of the plate.
+fn is_plan(item: &Instance) -> bool {
+    let [part] = item.parts.as_slice() else {
+        return false;
     };
-    assert_eq!(rt; context.number, 9);
-    assert!(rt; context.complex);
-    let [first, second] = context.parts.as_slice() else {
-        panic!(rt; "not two parts")
+    item.number == 2
+        && !item.complex
+        && is_keyword(part, b"WORKPLAN")
+        && are_of_plan(part.parameters.as_slice())
+}
+
+// Its complex instance.
+fn is_context(item: &Instance) -> bool {
+    let [first, second] = item.parts.as_slice() else {
+        return false;
     };
-    assert_eq!(rt;
-        first.keyword.bytes(),
-        b"GEOMETRIC_REPRESENTATION_CONTEXT".as_slice()
-    );
-    assert_eq!(rt;
-        second.keyword.bytes(),
-        b"REPRESENTATION_CONTEXT".as_slice()
-    );
-    assert_eq!(rt; second.parameters.len(), 2);
+    item.number == 9
+        && item.complex
+        && is_keyword(first, b"GEOMETRIC_REPRESENTATION_CONTEXT")
+        && is_keyword(second, b"REPRESENTATION_CONTEXT")
+        && second.parameters.len() == 2
+}
+
+#[test]
+fn instances_are_read(rt: HostRuntime) -> Result<(), Fail> {
+    let plate = read_text(&rt, rt.alloc(), PLATE)?;
+    let [_, plan, _, _, context, ..] = plate.items.as_slice() else {
+        panic!(rt; "fewer than five instances")
+    };
+    assert!(rt; is_plan(plan));
+    assert!(rt; is_context(context));
     Ok(())
 }
 
@@ -588,16 +610,20 @@ fn parameters_of_each_kind_are_read(rt: HostRuntime) -> Result<(), Fail> {
 #[test]
 fn lists_of_parameters_grow_and_shrink(rt: HostRuntime) -> Result<(), Fail> {
     let mut params = ParamList::new(rt.alloc());
-    assert!(rt; params.is_empty());
+    expect(&rt, params.is_empty(), true);
     params.push(Param::Reference(7))?;
     params.push(Param::Derived)?;
-    assert_eq!(rt; params.len(), 2);
-    assert!(rt; matches!(params.at(1), Param::Derived));
-    assert!(rt; matches!(params.pop(), Some(Param::Derived)));
-    assert!(rt; matches!(params.pop(), Some(Param::Reference(7))));
-    assert!(rt; params.pop().is_none());
+    expect(&rt, params.len(), 2);
+    expect(&rt, matches!(params.at(1), Param::Derived), true);
+    expect(&rt, matches!(params.pop(), Some(Param::Derived)), true);
+    expect(&rt, matches!(params.pop(), Some(Param::Reference(7))), true);
+    expect(&rt, params.pop().is_none(), true);
+    Ok(())
+}
+
+#[test]
+fn laws_of_exchanges_can_be_cited() {
     grammar_laws();
     instance_laws();
     text_laws();
-    Ok(())
 }
