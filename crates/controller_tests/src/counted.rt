@@ -102,11 +102,11 @@ fn counts(
     text: &str,
     words: &[&str],
     names: &[&str],
-) -> Result<([usize; 2], [u32; 2]), NoMemory> {
+) -> Result<((usize, u32), (u32, u32)), NoMemory> {
     let mut files = counted_files(alloc, text, names)?;
     let mut sink = counted_sink(alloc)?;
     status_of(alloc, words, &mut files, &mut sink)?;
-    Ok(([files.in_order, files.strays], [sink.lines, sink.others]))
+    Ok(((files.in_order, files.strays), (sink.lines, sink.others)))
 }
 
 /// Stops unless each name is read once, in this order, and no other.
@@ -118,7 +118,7 @@ fn expect_reads(
     names: &[&str],
 ) -> Result<(), Fail> {
     let (reads, _) = counts(alloc, text, words, names)?;
-    assert_eq!(rt; reads, [names.len(), 0], "of {words:?}");
+    assert_eq!(rt; reads, (names.len(), 0), "of {words:?}");
     Ok(())
 }
 
@@ -131,7 +131,7 @@ fn expect_pieces(
     count: u32,
 ) -> Result<(), Fail> {
     let (_, pieces) = counts(alloc, text, words, &[])?;
-    assert_eq!(rt; pieces, [count, 0], "of {words:?}");
+    assert_eq!(rt; pieces, (count, 0), "of {words:?}");
     Ok(())
 }
 

@@ -79,17 +79,18 @@ const TABLE: &str = "1 PROJECT 2:r\n\
     60 NUMERIC_PARAMETER 2:n\n";
 
 /// A line of the table.
+#[derive(Clone, Copy)]
 struct Class {
     code: u8,
     keyword: &'static str,
     positions: &'static str,
 }
 
-fn class(line: &'static str) -> Result<Class, Fail> {
+fn class_in(line: &'static str) -> Result<Class, Fail> {
     let (code, rest) = line.split_once(' ').ok_or("a number alone")?;
     let (keyword, positions) = rest.split_once(' ').unwrap_or((rest, ""));
     Ok(Class {
-        code: code.parse()?,
+        code: number(code),
         keyword,
         positions,
     })
@@ -116,10 +117,21 @@ fn may_be_unset(kind: &str) -> bool {
     kind == "f" || kind.bytes().all(|byte| byte.is_ascii_uppercase())
 }
 
+/// The number that decimal digits are. The table's are below 256.
+fn number(digits: &str) -> u8 {
+    let mut value: u8 = 0;
+    for digit in digits.bytes() {
+        value = value
+            .wrapping_mul(10)
+            .wrapping_add(digit.wrapping_sub(b'0'));
+    }
+    value
+}
+
 /// A used position with its kind.
 fn position(word: &str) -> Result<(u8, &str), Fail> {
     let (position, kind) = word.split_once(':').ok_or("a position without a kind")?;
-    Ok((position.parse()?, kind))
+    Ok((number(position), kind))
 }
 
 /// The first of some forms.
@@ -221,7 +233,7 @@ fn expect_position(rt: &impl Abort, alloc: Global, class: &Class, word: &str) ->
 #[test]
 fn each_class_and_position(rt: HostRuntime) -> Result<(), Fail> {
     for line in TABLE.lines() {
-        let class = class(line)?;
+        let class = class_in(line)?;
         expect_forms(&rt, rt.alloc(), &class, 0, "$", Ok(class.code))?;
         for word in class.positions.split_whitespace() {
             expect_position(&rt, rt.alloc(), &class, word)?;

@@ -14,7 +14,7 @@ use nc_base::NoMemory;
 use nc_outside::MemorySink;
 use path_blocks::{Def, Shape, Step};
 use run_core::run;
-use run_log::{Ending, write};
+use run_log::{Ending, Log, write};
 use std::alloc::Global;
 use std::test::Fail;
 
@@ -103,9 +103,14 @@ fn log_of(alloc: Global, count: u32, last: &str) -> Result<String, NoMemory> {
     Ok(text)
 }
 
+// The run of the two steps up to a limit. It promises nothing, so that what is done with its log is proved without what `run` promises.
+fn ran(alloc: Global, limit: u32) -> Result<(Log, Ending), NoMemory> {
+    run(alloc, &STEPS, limit)
+}
+
 // What is written of the run up to a limit, and how it ended.
 fn written(alloc: Global, limit: u32) -> Result<(MemorySink, Ending), Fail> {
-    let (log, ending) = run(alloc, &STEPS, limit)?;
+    let (log, ending) = ran(alloc, limit)?;
     let mut sink = MemorySink::new(alloc, 1_000)?;
     write(&log, ending, &mut sink)?;
     Ok((sink, ending))

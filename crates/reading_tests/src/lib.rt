@@ -14,4 +14,6 @@ mod printing;
 #[cfg(test)]
 mod reading;
 #[cfg(test)]
+mod rows;
+#[cfg(test)]
 mod shared;

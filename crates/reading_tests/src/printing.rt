@@ -48,7 +48,11 @@ const FILES: &[(&[u8], &[u8], &[u8], &[u8])] = &[
 ];
 
 // A file with these further entries and instances, as it is written by hand.
-fn written(alloc: Global, entries: &[u8], instances: &[u8]) -> Result<Vec<u8>, AllocError> {
+fn written<'a>(
+    alloc: Global,
+    entries: &'a [u8],
+    instances: &'a [u8],
+) -> Result<Vec<u8>, AllocError> {
     joined(
         alloc,
         &[
@@ -62,7 +66,7 @@ fn written(alloc: Global, entries: &[u8], instances: &[u8]) -> Result<Vec<u8>, A
 }
 
 // The same as it is printed.
-fn plain(alloc: Global, entries: &[u8], instances: &[u8]) -> Result<Vec<u8>, AllocError> {
+fn plain<'a>(alloc: Global, entries: &'a [u8], instances: &'a [u8]) -> Result<Vec<u8>, AllocError> {
     joined(
         alloc,
         &[

@@ -1,13 +1,15 @@
 //! Texts that are read as exchanges, or refused.
 
+use crate::rows::{bytes_of, row};
 use crate::shared::{HEAD, TAIL, expect, joined, read_text};
 use ReadErr::{Duplicate, Lex, Syntax, TooDeep, TooMany};
-use p21_lex::LexErr::{BadByte, BadName, NumberTooLong, OpenString};
+use nc_base::NoMemory;
+use p21_lex::LexErr::OpenString;
 use p21_parse::{
     Instance, MAX_INSTANCES, Param, ParamList, Part, ReadErr, grammar_laws, instance_laws,
     text_laws,
 };
-use std::alloc::Global;
+use std::alloc::{AllocError, Global};
 use std::process::Abort;
 use std::test::Fail;
 
@@ -36,59 +38,51 @@ const PLATE: &[u8] =
 const KINDS: &[u8] =
     b"#7 = A ( * , \"0F\" , 'it''s' ) ;\n#8=A(.B_1.,!C(5.),#008);\n#9=A($,-1,((),2));\n";
 
-// Instances behind the 139 bytes of a head, and why the file is refused, if it is.
-const INSTANCES: &[(&[u8], Option<ReadErr>)] = &[
-    (b"", None),
-    (b"#2147483647=A();\n#1=A('''',#1);\n", None),
-    (b"#5=!A(!B(1));\n", None),
-    (b"#5=(A());\n", None),
-    (b"#5=A(+12345678901234567890123456789012345678);\n", None),
-    (b"#5=A(#5,'#5=');\n#6=A(#5);\n", None),
-    // Tokens.
-    (
-        b"#5=A(123456789012345678901234567890123456789);\n",
-        Some(Lex(NumberTooLong(144))),
-    ),
-    (b"#0=A();\n", Some(Lex(BadName(139)))),
-    (b"#2147483648=A();\n", Some(Lex(BadName(139)))),
-    (b"#5=A(a);\n", Some(Lex(BadByte(144)))),
-    (b"#5=A('a\x01');\n", Some(Lex(BadByte(146)))),
-    (b"#5=;\n#5=A(.5);\n", Some(Lex(BadByte(149)))),
-    (b"#5=A();\n#5=A();\n#0=A();\n", Some(Lex(BadName(155)))),
-    // Instances.
-    (b"A();\n", Some(Syntax(139))),
-    (b"#5 A();\n", Some(Syntax(142))),
-    (b"#5=;\n", Some(Syntax(142))),
-    (b"#5=#6();\n", Some(Syntax(142))),
-    (b"#5=A-B();\n", Some(Syntax(142))),
-    (b"#5=!A-5();\n", Some(Syntax(144))),
-    (b"#5=A;\n", Some(Syntax(143))),
-    (b"#5=A()\n", Some(Syntax(146))),
-    (b"#5=A()B();\n", Some(Syntax(145))),
-    (b"#5=();\n", Some(Syntax(143))),
-    (b"#5=(A(),B());\n", Some(Syntax(146))),
-    (b"#5=((A()));\n", Some(Syntax(143))),
-    (b"#5=(A();\n", Some(Syntax(146))),
-    // Parameters.
-    (b"#5=A(1,);\n", Some(Syntax(146))),
-    (b"#5=A(,1);\n", Some(Syntax(144))),
-    (b"#5=A(1 2);\n", Some(Syntax(146))),
-    (b"#5=A(1;\n", Some(Syntax(145))),
-    (b"#5=A((1);\n", Some(Syntax(147))),
-    (b"#5=A(=);\n", Some(Syntax(144))),
-    (b"#5=A(B-C);\n", Some(Syntax(144))),
-    (b"#5=A(!B);\n", Some(Syntax(146))),
-    (b"#5=A(B());\n", Some(Syntax(146))),
-    (b"#5=A(B(1,2));\n", Some(Syntax(147))),
-    // Numbers that come twice, before or behind another fault.
-    (b"#72=A();\n#72=A();\n", Some(Duplicate(72))),
-    (b"#72=A();\n#73=(A());\n#0072=B();\n", Some(Duplicate(72))),
-    (b"#5=A();\n#6=A();\n#6=A();\n#5=A();\n", Some(Duplicate(6))),
-    (b"#5=A();\n#5 A();\n", Some(Duplicate(5))),
-    (b"#5=A();\n#5=;\n", Some(Duplicate(5))),
-    (b"#5=;\n#5=A();\n", Some(Syntax(142))),
-    (b"#5=A()#5=A();\n", Some(Syntax(145))),
-];
+/// In each row instances behind the 139 bytes of a head, and why the file is refused, or nothing. The rows are, in this order: files that
+/// are read; faults of tokens, of instances and of parameters; and numbers that come twice, before or behind another fault.
+const INSTANCES: &str = "|\n\
+    #2147483647=A();¶#1=A('''',#1);¶|\n\
+    #5=!A(!B(1));¶|\n\
+    #5=(A());¶|\n\
+    #5=A(+12345678901234567890123456789012345678);¶|\n\
+    #5=A(#5,'#5=');¶#6=A(#5);¶|\n\
+    #5=A(123456789012345678901234567890123456789);¶|Lex(NumberTooLong(144))\n\
+    #0=A();¶|Lex(BadName(139))\n\
+    #2147483648=A();¶|Lex(BadName(139))\n\
+    #5=A(a);¶|Lex(BadByte(144))\n\
+    #5=A('a\x01');¶|Lex(BadByte(146))\n\
+    #5=;¶#5=A(.5);¶|Lex(BadByte(149))\n\
+    #5=A();¶#5=A();¶#0=A();¶|Lex(BadName(155))\n\
+    A();¶|Syntax(139)\n\
+    #5 A();¶|Syntax(142)\n\
+    #5=;¶|Syntax(142)\n\
+    #5=#6();¶|Syntax(142)\n\
+    #5=A-B();¶|Syntax(142)\n\
+    #5=!A-5();¶|Syntax(144)\n\
+    #5=A;¶|Syntax(143)\n\
+    #5=A()¶|Syntax(146)\n\
+    #5=A()B();¶|Syntax(145)\n\
+    #5=();¶|Syntax(143)\n\
+    #5=(A(),B());¶|Syntax(146)\n\
+    #5=((A()));¶|Syntax(143)\n\
+    #5=(A();¶|Syntax(146)\n\
+    #5=A(1,);¶|Syntax(146)\n\
+    #5=A(,1);¶|Syntax(144)\n\
+    #5=A(1 2);¶|Syntax(146)\n\
+    #5=A(1;¶|Syntax(145)\n\
+    #5=A((1);¶|Syntax(147)\n\
+    #5=A(=);¶|Syntax(144)\n\
+    #5=A(B-C);¶|Syntax(144)\n\
+    #5=A(!B);¶|Syntax(146)\n\
+    #5=A(B());¶|Syntax(146)\n\
+    #5=A(B(1,2));¶|Syntax(147)\n\
+    #72=A();¶#72=A();¶|Duplicate(72)\n\
+    #72=A();¶#73=(A());¶#0072=B();¶|Duplicate(72)\n\
+    #5=A();¶#6=A();¶#6=A();¶#5=A();¶|Duplicate(6)\n\
+    #5=A();¶#5 A();¶|Duplicate(5)\n\
+    #5=A();¶#5=;¶|Duplicate(5)\n\
+    #5=;¶#5=A();¶|Syntax(142)\n\
+    #5=A()#5=A();¶|Syntax(145)\n";
 
 // Texts in pieces, each so many times, and why they are refused, if they are.
 type Row<'a> = (&'a [(&'a [u8], u32)], Option<ReadErr>);
@@ -361,16 +355,28 @@ fn expect_refusal(
     Ok(())
 }
 
+// Why a text is refused, or nothing.
+fn shown(rt: &impl Abort, alloc: Global, text: &[u8]) -> Result<String, AllocError> {
+    match sizes_of(rt, alloc, text) {
+        Ok(_) => Ok(String::new(alloc)),
+        Err(refusal) => format!(in alloc; "{refusal:?}"),
+    }
+}
+
+#[test]
+fn instances_are_read_or_refused_at_their_place(rt: HostRuntime) -> Result<(), Fail> {
+    for line in INSTANCES.lines() {
+        let (instances, want) = row(line)?;
+        let instances = bytes_of(rt.alloc(), instances)?;
+        let text = joined(rt.alloc(), &[(HEAD, 1), (&instances, 1), (TAIL, 1)])?;
+        let found = shown(&rt, rt.alloc(), text.as_slice())?;
+        assert_eq!(rt; found.as_str(), want, "of {line}");
+    }
+    Ok(())
+}
+
 #[test]
 fn files_are_read_or_refused_at_their_place(rt: HostRuntime) -> Result<(), Fail> {
-    for (instances, refusal) in INSTANCES {
-        expect_refusal(
-            &rt,
-            rt.alloc(),
-            &[(HEAD, 1), (*instances, 1), (TAIL, 1)],
-            *refusal,
-        )?;
-    }
     for rows in [HEADERS, NESTED] {
         for (pieces, refusal) in rows {
             expect_refusal(&rt, rt.alloc(), *pieces, *refusal)?;
@@ -607,17 +613,33 @@ fn parameters_of_each_kind_are_read(rt: HostRuntime) -> Result<(), Fail> {
     Ok(())
 }
 
-#[test]
-fn lists_of_parameters_grow_and_shrink(rt: HostRuntime) -> Result<(), Fail> {
-    let mut params = ParamList::new(rt.alloc());
-    expect(&rt, params.is_empty(), true);
+// A reference and a derived value.
+fn two(alloc: Global) -> Result<ParamList, NoMemory> {
+    let mut params = ParamList::new(alloc);
     params.push(Param::Reference(7))?;
     params.push(Param::Derived)?;
-    expect(&rt, params.len(), 2);
-    expect(&rt, matches!(params.at(1), Param::Derived), true);
-    expect(&rt, matches!(params.pop(), Some(Param::Derived)), true);
-    expect(&rt, matches!(params.pop(), Some(Param::Reference(7))), true);
-    expect(&rt, params.pop().is_none(), true);
+    Ok(params)
+}
+
+// Takes the last parameter, and says which of them it was.
+fn popped(params: &mut ParamList) -> &'static str {
+    match params.pop() {
+        Some(Param::Derived) => "*",
+        Some(Param::Reference(7)) => "#7",
+        Some(_) => "another",
+        None => "none",
+    }
+}
+
+#[test]
+fn lists_of_parameters_grow_and_shrink(rt: HostRuntime) -> Result<(), Fail> {
+    expect(&rt, ParamList::new(rt.alloc()).is_empty(), true);
+    let mut params = two(rt.alloc())?;
+    assert_eq!(rt; params.len(), 2);
+    assert!(rt; matches!(params.at(1), Param::Derived));
+    for want in ["*", "#7", "none"] {
+        expect(&rt, popped(&mut params), want);
+    }
     Ok(())
 }
 
