@@ -1,6 +1,6 @@
 //! What the controller answers to words and files.
 
-use crate::asked::{PATH, REPLAY, answered, changed, files_with, status_of, top_status_of};
+use crate::asked::{PATH, REPLAY, answered, changed, expect, files_with, status_of, top_status_of};
 use crate::projects::{
     FACE, FACE_PATH, HOLE, HOLE_LOG, HOLE_LOG_OF_SEVEN, HOLE_PATH, PLATE, POCKET, POCKET_PATH,
     TWO_HOLES,
@@ -414,13 +414,17 @@ fn expect_refused(rt: &impl Abort, alloc: Global, text: &str, reason: &str) -> R
     expect_line(rt, alloc, text, &PATH, &line)
 }
 
-#[test]
-fn projects_are_refused_for_the_first_reason(rt: HostRuntime) -> Result<(), Fail> {
-    for (text, changes, reason) in REFUSED {
-        let text = changed(rt.alloc(), text, changes)?;
-        expect_refused(&rt, rt.alloc(), &text, reason)?;
+fn expect_all_refused(rt: &impl Abort, alloc: Global, rows: &[Refused]) -> Result<(), Fail> {
+    for (text, changes, reason) in rows {
+        let text = changed(alloc, *text, *changes)?;
+        expect_refused(rt, alloc, &text, *reason)?;
     }
     Ok(())
+}
+
+#[test]
+fn projects_are_refused_for_the_first_reason(rt: HostRuntime) -> Result<(), Fail> {
+    expect_all_refused(&rt, rt.alloc(), &REFUSED)
 }
 
 #[test]
@@ -434,8 +438,8 @@ fn the_host_calls_top(rt: HostRuntime) -> Result<(), Fail> {
     let mut files = files_with(rt.alloc(), HOLE)?;
     let mut sink = MemorySink::new(rt.alloc(), 10000)?;
     let status = top_status_of(rt, &REPLAY, &mut files, &mut sink)?;
-    assert_eq!(rt; status, Status::Done);
-    assert_eq!(rt; sink.bytes(), HOLE_LOG.as_bytes());
+    expect(&rt, status, Status::Done);
+    expect(&rt, sink.bytes(), HOLE_LOG.as_bytes());
     Ok(())
 }
 

@@ -4,6 +4,8 @@ use controller::{Status, quick, top};
 use nc_base::{NcText, NoMemory};
 use nc_outside::{Files, FreeGate, MemoryFiles, MemorySink, Sink};
 use std::alloc::Global;
+use std::fmt::Debug;
+use std::process::Abort;
 
 /// The words of a replay of `plate.stp`.
 pub const REPLAY: [&str; 5] = ["replay", "plate.stp", "-", "-", "100"];
@@ -62,11 +64,21 @@ pub fn answered(
     Ok((status, sink))
 }
 
+/// The text with a part of it in place of another. It promises nothing, like `status_of`.
+pub fn replaced(alloc: Global, text: &str, old: &str, new: &str) -> Result<String, NoMemory> {
+    Ok(text.replace(alloc, old, new)?)
+}
+
 /// The text with parts of it in place of others.
 pub fn changed(alloc: Global, text: &str, changes: &[(&str, &str)]) -> Result<String, NoMemory> {
     let mut whole = String::from_str(alloc, text)?;
     for (old, new) in changes {
-        whole = whole.replace(alloc, *old, *new)?;
+        whole = replaced(alloc, &whole, *old, *new)?;
     }
     Ok(whole)
+}
+
+/// Stops unless the two are equal. A comparison is proved here once, and a test only calls it.
+pub fn expect<T: PartialEq + Debug + Drop>(rt: &impl Abort, found: T, wanted: T) {
+    assert_eq!(rt; found, wanted);
 }

@@ -3,7 +3,7 @@
 ghost use Rattle.std.specs.Prelude.{◌≡◌, ℕ, ◌≤◌, ◌<◌, List, [], length, Option};
 ghost use Rattle.nc_outside.specs.Outside.{Rose, Appends};
 
-use crate::asked::{PATH, REPLAY, files_with, status_of, texts, top_status_of};
+use crate::asked::{PATH, REPLAY, expect, files_with, replaced, status_of, texts, top_status_of};
 use crate::projects::{HOLE, PLATE};
 use controller::Status;
 use nc_base::{NcText, NoMemory};
@@ -73,18 +73,23 @@ impl<S: Sink + Drop> Sink for CountedSink<S> {
     }
 }
 
+fn counting<F: Files + Drop>(files: F, wanted: Vec<NcText>) -> CountedFiles<F> {
+    CountedFiles {
+        files,
+        wanted,
+        in_order: 0,
+        strays: 0,
+    }
+}
+
 /// Files with this text in `plate.stp` that want to be read once for each of these names.
 fn counted_files(
     alloc: Global,
     text: &str,
     names: &[&str],
 ) -> Result<CountedFiles<MemoryFiles>, NoMemory> {
-    Ok(CountedFiles {
-        files: files_with(alloc, text)?,
-        wanted: texts(alloc, names)?,
-        in_order: 0,
-        strays: 0,
-    })
+    let wanted = texts(alloc, names)?;
+    Ok(counting(files_with(alloc, text)?, wanted))
 }
 
 fn counted_sink(alloc: Global) -> Result<CountedSink<MemorySink>, NoMemory> {
@@ -150,8 +155,8 @@ const READS: [(&[&str], &[&str]); 9] = [
 
 #[test]
 fn each_named_file_is_read_once(rt: HostRuntime) -> Result<(), Fail> {
-    for (words, names) in READS {
-        expect_reads(&rt, rt.alloc(), HOLE, words, names)?;
+    for (words, names) in &READS {
+        expect_reads(&rt, rt.alloc(), HOLE, *words, *names)?;
     }
     Ok(())
 }
@@ -166,7 +171,7 @@ const REFUSED: [(&str, &str); 5] = [
 ];
 
 fn expect_refused_reads(rt: &impl Abort, alloc: Global, old: &str, new: &str) -> Result<(), Fail> {
-    let text = HOLE.replace(alloc, old, new)?;
+    let text = replaced(alloc, HOLE, old, new)?;
     expect_reads(rt, alloc, &text, &REPLAY, &["plate.stp"])?;
     expect_reads(rt, alloc, &text, &PATH, &["plate.stp"])?;
     expect_pieces(rt, alloc, &text, &REPLAY, 1)
@@ -174,8 +179,8 @@ fn expect_refused_reads(rt: &impl Abort, alloc: Global, old: &str, new: &str) ->
 
 #[test]
 fn a_refused_file_is_read_once_and_gives_one_line(rt: HostRuntime) -> Result<(), Fail> {
-    for (old, new) in REFUSED {
-        expect_refused_reads(&rt, rt.alloc(), old, new)?;
+    for (old, new) in &REFUSED {
+        expect_refused_reads(&rt, rt.alloc(), *old, *new)?;
     }
     Ok(())
 }
@@ -192,8 +197,8 @@ const LINES: [(&str, &[&str], u32); 6] = [
 
 #[test]
 fn each_line_is_one_piece(rt: HostRuntime) -> Result<(), Fail> {
-    for (text, words, count) in LINES {
-        expect_pieces(&rt, rt.alloc(), text, words, count)?;
+    for (text, words, count) in &LINES {
+        expect_pieces(&rt, rt.alloc(), *text, *words, *count)?;
     }
     Ok(())
 }
@@ -203,8 +208,8 @@ fn top_reads_once_too(rt: HostRuntime) -> Result<(), Fail> {
     let mut files = counted_files(rt.alloc(), HOLE, &["plate.stp"])?;
     let mut sink = counted_sink(rt.alloc())?;
     let status = top_status_of(rt, &REPLAY, &mut files, &mut sink)?;
-    assert_eq!(rt; status, Status::Done);
-    assert_eq!(rt; (files.in_order, files.strays), (1, 0));
-    assert_eq!(rt; (sink.lines, sink.others), (10, 0));
+    expect(&rt, status, Status::Done);
+    expect(&rt, (files.in_order, files.strays), (1, 0));
+    expect(&rt, (sink.lines, sink.others), (10, 0));
     Ok(())
 }

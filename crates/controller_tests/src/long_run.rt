@@ -1,6 +1,6 @@
 //! A long run of every kind of path, compared whole with the text that the format of logs gives it.
 
-use crate::asked::answered;
+use crate::asked::{answered, replaced};
 use controller::Status;
 use nc_base::NoMemory;
 use std::alloc::Global;
@@ -152,11 +152,14 @@ fn kind_of(step: u32) -> (&'static str, &'static str) {
     KINDS[(step % 5) as usize]
 }
 
-/// Puts a form with the number of a workingstep in place of each `@`.
-fn put_form(alloc: Global, text: &mut String, form: &str, step: u32) -> Result<(), NoMemory> {
+/// A form with the number of a workingstep in place of each `@`.
+fn filled(alloc: Global, form: &str, step: u32) -> Result<String, NoMemory> {
     let number = FIRST_STEP.wrapping_add(step).to_string(alloc)?;
-    let written = form.replace(alloc, "@", &number)?;
-    Ok(text.push_str(&written)?)
+    replaced(alloc, form, "@", &number)
+}
+
+fn put_form(alloc: Global, text: &mut String, form: &str, step: u32) -> Result<(), NoMemory> {
+    Ok(text.push_str(&filled(alloc, form, step)?)?)
 }
 
 /// A workplan of these workingsteps.
@@ -197,24 +200,18 @@ fn entries(alloc: Global) -> Result<String, NoMemory> {
 }
 
 /// The log with so many of these lines, and this last one.
-fn log_of(alloc: Global, lines: &[u8], count: u32, last: &str) -> Result<Vec<u8>, NoMemory> {
-    let mut log = Vec::from_slice(alloc, b"STEPNC-LOG 1\n")?;
-    let mut left = count;
-    for byte in lines {
-        if left == 0 {
-            break;
-        }
-        log.push(*byte)?;
-        if *byte == b'\n' {
-            left -= 1;
-        }
+fn log_of(alloc: Global, lines: &str, count: usize, last: &str) -> Result<String, NoMemory> {
+    let mut log = String::from_str(alloc, "STEPNC-LOG 1\n")?;
+    for line in lines.lines().take(count) {
+        log.push_str(line)?;
+        log.push_str("\n")?;
     }
-    log.extend_from_slice(last.as_bytes())?;
+    log.push_str(last)?;
     Ok(log)
 }
 
 /// A limit, the status of the replay up to it, how many entries it has, and the log's last line.
-type Row = (&'static str, Status, u32, &'static str);
+type Row = (&'static str, Status, usize, &'static str);
 
 const ROWS: [Row; 4] = [
     ("2000000", Status::Done, 37_200, "end done 37200\n"),
@@ -228,14 +225,14 @@ fn expect_log(
     rt: &impl Abort,
     alloc: Global,
     project: &str,
-    lines: &[u8],
+    lines: &str,
     row: &Row,
 ) -> Result<(), Fail> {
     let (limit, status, count, last) = *row;
     let (said, sink) = answered(alloc, project, &["replay", "plate.stp", "-", "-", limit])?;
     let log = log_of(alloc, lines, count, last)?;
     assert_eq!(rt; said, status);
-    assert!(rt; sink.bytes() == log.as_slice(), "up to {limit} entries");
+    assert!(rt; sink.bytes() == log.as_bytes(), "up to {limit} entries");
     Ok(())
 }
 
@@ -244,7 +241,7 @@ fn a_long_run_of_every_path_is_written_whole(rt: HostRuntime) -> Result<(), Fail
     let project = project(rt.alloc())?;
     let lines = entries(rt.alloc())?;
     for row in &ROWS {
-        expect_log(&rt, rt.alloc(), &project, lines.as_bytes(), row)?;
+        expect_log(&rt, rt.alloc(), &project, &lines, row)?;
     }
     Ok(())
 }

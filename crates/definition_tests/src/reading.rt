@@ -1,6 +1,6 @@
 //! Projects read from bytes, slice by slice and as a whole.
 
-use nc_base::{NoMemory, NumberList};
+use nc_base::{NoMemory, Number, NumberList};
 use p21_lex::LexErr;
 use p21_parse::ReadErr;
 use project_read::{
@@ -202,11 +202,15 @@ const FAR_APART: [(&[u8], Result<usize, ProjectErr>); 2] = [
     ),
 ];
 
+fn far_apart<'a>(alloc: Global, planes: &'a [u8], part: &'a [u8]) -> Result<Vec<u8>, AllocError> {
+    file(alloc, &[planes, b"#1637572611=PLANE('',#2);\n", part])
+}
+
 #[test]
 fn numbers_far_apart_are_read(rt: HostRuntime) -> Result<(), Fail> {
     let planes = numbered(rt.alloc(), "#@=PLANE('',#%);\n", 3, 8_192, 199_899)?;
     for (part, want) in FAR_APART {
-        let text = file(rt.alloc(), &[&planes, b"#1637572611=PLANE('',#2);\n", part])?;
+        let text = far_apart(rt.alloc(), &planes, part)?;
         expect_count(&rt, rt.alloc(), text.as_slice(), want);
     }
     Ok(())
@@ -301,13 +305,15 @@ fn the_least_faulty_step_is_told(rt: HostRuntime) {
     assert_eq!(&rt; faulty_in(rt.alloc(), STEPS), Some(11));
 }
 
+/// The numbers of a project's workingsteps, in their order.
+fn step_numbers(alloc: Global, project: &Project) -> Result<Vec<Number>, AllocError> {
+    project.steps.iter().map(|step| step.number).collect(alloc)
+}
+
 #[test]
 fn steps_stand_in_the_order_of_the_plan(rt: HostRuntime) -> Result<(), Fail> {
     let project = project(&rt, rt.alloc(), RIGHT_STEPS)?;
-    let mut numbers = Vec::new(rt.alloc());
-    for step in &project.steps {
-        numbers.push(step.number)?;
-    }
+    let numbers = step_numbers(rt.alloc(), &project)?;
     assert_eq!(&rt; numbers.as_slice(), [12, 10, 11].as_slice());
     Ok(())
 }

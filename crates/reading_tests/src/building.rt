@@ -1,13 +1,12 @@
 //! Exchanges made of instances, and instances alone.
 
-use crate::made::{Kind, part, simple, value, with_param};
+use crate::made::{Kind, parts, simple, value, with_param};
 use crate::shared::expect;
 use ReadErr::{Syntax, TooDeep, TooMany};
 use nc_base::{MAX_NUMBER, NcText, NoMemory, Number};
 use p21_lex::{MAX_TEXT, tokens};
 use p21_parse::{
-    BuildErr, Exchange, Instance, InstanceList, Param, ParamList, Part, PartList, ReadErr,
-    instances,
+    BuildErr, Exchange, Instance, InstanceList, Param, ParamList, Part, ReadErr, instances,
 };
 use std::alloc::Global;
 use std::process::Abort;
@@ -124,14 +123,10 @@ fn with_parts(
     complex: bool,
     count: u32,
 ) -> Result<Instance, NoMemory> {
-    let mut parts = PartList::new(alloc);
-    for _ in 0..count {
-        parts.push(part(alloc, b"A")?)?;
-    }
     Ok(Instance {
         number,
         complex,
-        parts,
+        parts: parts(alloc, b"A", count)?,
     })
 }
 

@@ -1,6 +1,6 @@
 //! The tokens of texts, whole and slice by slice.
 
-use crate::rows::{bytes_of, row};
+use crate::rows::{bytes_of, number, row};
 use crate::shared::expect;
 use LexErr::BadByte;
 use TokenKind::{Enumeration, Int, Name};
@@ -109,12 +109,17 @@ fn shown(rt: &impl Abort, alloc: Global, text: &[u8]) -> Result<String, AllocErr
     }
 }
 
+fn expect_row(rt: &impl Abort, alloc: Global, line: &str) -> Result<(), Fail> {
+    let (text, want) = row(line);
+    let bytes = bytes_of(alloc, text)?;
+    let found = shown(rt, alloc, bytes.as_slice())?;
+    assert_eq!(rt; found.as_str(), want, "of {text}");
+    Ok(())
+}
+
 fn expect_rows(rt: &impl Abort, alloc: Global, table: &str) -> Result<(), Fail> {
     for line in table.lines() {
-        let (text, want) = row(line)?;
-        let bytes = bytes_of(alloc, text)?;
-        let found = shown(rt, alloc, bytes.as_slice())?;
-        assert_eq!(rt; found.as_str(), want, "of {text}");
+        expect_row(rt, alloc, line)?;
     }
     Ok(())
 }
@@ -176,14 +181,19 @@ fn shown_slice(
     }
 }
 
+fn expect_slice(rt: &impl Abort, alloc: Global, line: &str) -> Result<(), Fail> {
+    let (least, rest) = row(line);
+    let (text, want) = row(rest);
+    let bytes = bytes_of(alloc, text)?;
+    let found = shown_slice(rt, alloc, bytes.as_slice(), number(least))?;
+    assert_eq!(rt; found.as_str(), want, "of {text}");
+    Ok(())
+}
+
 #[test]
 fn slices(rt: HostRuntime) -> Result<(), Fail> {
     for line in SLICES.lines() {
-        let (least, rest) = row(line)?;
-        let (text, want) = row(rest)?;
-        let bytes = bytes_of(rt.alloc(), text)?;
-        let found = shown_slice(&rt, rt.alloc(), bytes.as_slice(), least.parse()?)?;
-        assert_eq!(rt; found.as_str(), want, "of {text}");
+        expect_slice(&rt, rt.alloc(), line)?;
     }
     Ok(())
 }

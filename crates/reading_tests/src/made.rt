@@ -34,14 +34,21 @@ pub fn part(alloc: Global, keyword: &[u8]) -> Result<Part, NoMemory> {
     })
 }
 
+/// So many parts of a keyword.
+pub fn parts(alloc: Global, keyword: &[u8], count: u32) -> Result<PartList, NoMemory> {
+    let mut parts = PartList::new(alloc);
+    for _ in 0..count {
+        parts.push(part(alloc, keyword)?)?;
+    }
+    Ok(parts)
+}
+
 /// A simple instance without parameters.
 pub fn simple(alloc: Global, number: Number, keyword: &[u8]) -> Result<Instance, NoMemory> {
-    let mut parts = PartList::new(alloc);
-    parts.push(part(alloc, keyword)?)?;
     Ok(Instance {
         number,
         complex: false,
-        parts,
+        parts: parts(alloc, keyword, 1)?,
     })
 }
 

@@ -105,7 +105,7 @@ fn expect_value(rt: &impl Abort, alloc: Global, text: &str, want: &str) -> Resul
 #[test]
 fn edges(rt: HostRuntime) -> Result<(), Fail> {
     for line in EDGES.lines() {
-        let (text, want) = row(line)?;
+        let (text, want) = row(line);
         expect_value(&rt, rt.alloc(), text, want)?;
     }
     Ok(())

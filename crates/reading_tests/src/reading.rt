@@ -363,14 +363,19 @@ fn shown(rt: &impl Abort, alloc: Global, text: &[u8]) -> Result<String, AllocErr
     }
 }
 
+fn expect_instances(rt: &impl Abort, alloc: Global, line: &str) -> Result<(), Fail> {
+    let (instances, want) = row(line);
+    let instances = bytes_of(alloc, instances)?;
+    let text = joined(alloc, &[(HEAD, 1), (&instances, 1), (TAIL, 1)])?;
+    let found = shown(rt, alloc, text.as_slice())?;
+    assert_eq!(rt; found.as_str(), want, "of {line}");
+    Ok(())
+}
+
 #[test]
 fn instances_are_read_or_refused_at_their_place(rt: HostRuntime) -> Result<(), Fail> {
     for line in INSTANCES.lines() {
-        let (instances, want) = row(line)?;
-        let instances = bytes_of(rt.alloc(), instances)?;
-        let text = joined(rt.alloc(), &[(HEAD, 1), (&instances, 1), (TAIL, 1)])?;
-        let found = shown(&rt, rt.alloc(), text.as_slice())?;
-        assert_eq!(rt; found.as_str(), want, "of {line}");
+        expect_instances(&rt, rt.alloc(), line)?;
     }
     Ok(())
 }
@@ -621,9 +626,9 @@ fn two(alloc: Global) -> Result<ParamList, NoMemory> {
     Ok(params)
 }
 
-// Takes the last parameter, and says which of them it was.
-fn popped(params: &mut ParamList) -> &'static str {
-    match params.pop() {
+// Which of them a parameter is.
+fn which(param: &Option<Param>) -> &'static str {
+    match param {
         Some(Param::Derived) => "*",
         Some(Param::Reference(7)) => "#7",
         Some(_) => "another",
@@ -638,7 +643,7 @@ fn lists_of_parameters_grow_and_shrink(rt: HostRuntime) -> Result<(), Fail> {
     assert_eq!(rt; params.len(), 2);
     assert!(rt; matches!(params.at(1), Param::Derived));
     for want in ["*", "#7", "none"] {
-        expect(&rt, popped(&mut params), want);
+        expect(&rt, which(&params.pop()), want);
     }
     Ok(())
 }

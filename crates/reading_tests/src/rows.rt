@@ -1,11 +1,21 @@
 //! Tables as texts: a row to a line, with `|` between its parts.
 
 use std::alloc::{AllocError, Global};
-use std::test::Fail;
 
-/// The first part of a row, and the others.
-pub fn row(line: &str) -> Result<(&str, &str), Fail> {
-    Ok(line.split_once('|').ok_or("a row of one part")?)
+/// The first part of a row, and what follows it.
+pub fn row(line: &str) -> (&str, &str) {
+    line.split_once('|').unwrap_or((line, ""))
+}
+
+/// The number that decimal digits are. Those of the tables fit.
+pub fn number(digits: &str) -> u32 {
+    let mut value: u32 = 0;
+    for digit in digits.bytes() {
+        value = value
+            .wrapping_mul(10)
+            .wrapping_add(u32::from(digit.wrapping_sub(b'0')));
+    }
+    value
 }
 
 /// The bytes of a text of a row: each character is the byte of its number, and `¶` a line feed.
