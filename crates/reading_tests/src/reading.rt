@@ -325,13 +325,18 @@ const LAST: &[(&[u8], Option<ReadErr>)] = &[
     (b"#300000=A();#100001=A();", Some(TooMany(2_400_139))),
 ];
 
+// Puts an instance of this number.
+fn put_instance(alloc: Global, text: &mut Vec<u8>, number: u32) -> Result<(), AllocError> {
+    let line = format!(in alloc; "#{number}=A();")?;
+    text.extend_from_slice(line.as_bytes())
+}
+
 // Instances of these numbers, which go from one on by a step.
-fn stepped(alloc: Global, first: u32, step: u32, count: u32) -> Result<Vec<u8>, Fail> {
+fn stepped(alloc: Global, first: u32, step: u32, count: u32) -> Result<Vec<u8>, AllocError> {
     let mut text = Vec::new(alloc);
     let mut number = first;
     for _ in 0..count {
-        let line = format!(in alloc; "#{number}=A();")?;
-        text.extend_from_slice(line.as_bytes())?;
+        put_instance(alloc, &mut text, number)?;
         number = number.wrapping_add(step);
     }
     Ok(text)
@@ -390,16 +395,27 @@ fn files_are_read_or_refused_at_their_place(rt: HostRuntime) -> Result<(), Fail>
     Ok(())
 }
 
+// Stops unless a file of these instances and those behind them is refused so, or read.
+fn expect_behind<'a>(
+    rt: &impl Abort,
+    alloc: Global,
+    front: &'a [u8],
+    last: &'a [u8],
+    want: Option<ReadErr>,
+) -> Result<(), Fail> {
+    expect_refusal(
+        rt,
+        alloc,
+        &[(HEAD, 1), (front, 1), (last, 1), (TAIL, 1)],
+        want,
+    )
+}
+
 #[test]
 fn files_have_at_most_200_000_instances(rt: HostRuntime) -> Result<(), Fail> {
     let front = stepped(rt.alloc(), 100_001, 1, MAX_INSTANCES as u32 - 1)?;
     for (last, refusal) in LAST {
-        expect_refusal(
-            &rt,
-            rt.alloc(),
-            &[(HEAD, 1), (&front, 1), (*last, 1), (TAIL, 1)],
-            *refusal,
-        )?;
+        expect_behind(&rt, rt.alloc(), &front, *last, *refusal)?;
     }
     Ok(())
 }
@@ -432,42 +448,37 @@ const COLLIDING: u32 = 199_900;
 
 const STEP: u32 = 8192;
 
+// Whether such numbers are read, and refused where the first stands a second time at the end.
+fn expect_stepped(
+    rt: &impl Abort,
+    alloc: Global,
+    first: u32,
+    step: u32,
+    again: &[u8],
+) -> Result<(), Fail> {
+    let front = stepped(alloc, first, step, COLLIDING)?;
+    expect_behind(rt, alloc, &front, b"", None)?;
+    expect_behind(rt, alloc, &front, again, Some(Duplicate(first)))
+}
+
 #[test]
 fn numbers_that_rise_by_a_step_are_read(rt: HostRuntime) -> Result<(), Fail> {
-    let front = stepped(rt.alloc(), STEP, STEP, COLLIDING)?;
-    expect_refusal(&rt, rt.alloc(), &[(HEAD, 1), (&front, 1), (TAIL, 1)], None)?;
-    expect_refusal(
-        &rt,
-        rt.alloc(),
-        &[(HEAD, 1), (&front, 1), (b"#8192=A();", 1), (TAIL, 1)],
-        Some(Duplicate(8192)),
-    )
+    expect_stepped(&rt, rt.alloc(), STEP, STEP, b"#8192=A();")
 }
 
 #[test]
 fn numbers_that_fall_by_a_step_are_read(rt: HostRuntime) -> Result<(), Fail> {
-    let front = stepped(
-        rt.alloc(),
-        COLLIDING * STEP,
-        0u32.wrapping_sub(STEP),
-        COLLIDING,
-    )?;
-    expect_refusal(&rt, rt.alloc(), &[(HEAD, 1), (&front, 1), (TAIL, 1)], None)?;
-    expect_refusal(
-        &rt,
-        rt.alloc(),
-        &[(HEAD, 1), (&front, 1), (b"#1637580800=A();", 1), (TAIL, 1)],
-        Some(Duplicate(1_637_580_800)),
-    )
+    let first = COLLIDING * STEP;
+    let step = 0u32.wrapping_sub(STEP);
+    expect_stepped(&rt, rt.alloc(), first, step, b"#1637580800=A();")
 }
 
-// Instances of which the number at one index stands once more at another, and a fault behind them.
-fn with_repeat(alloc: Global, first: u32, again: u32) -> Result<Vec<u8>, Fail> {
+// Instances of which the number at one index stands once more at another.
+fn with_repeat(alloc: Global, first: u32, again: u32) -> Result<Vec<u8>, AllocError> {
     let mut text = Vec::new(alloc);
     for i in 0..SMALL {
         let number = (if i == again { first } else { i }).wrapping_add(100);
-        let line = format!(in alloc; "#{number}=A();")?;
-        text.extend_from_slice(line.as_bytes())?;
+        put_instance(alloc, &mut text, number)?;
     }
     Ok(text)
 }
