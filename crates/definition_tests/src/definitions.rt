@@ -22,6 +22,12 @@ type Numbers = (u32, [i64; 7], Shape);
 /// A workingstep, an instance that is put in place of another, and what that makes of the step.
 type Row = (Number, &'static str, Result<Numbers, DefFault>);
 
+macro_rules! row {
+    ($step:literal $line:literal $answer:expr) => {
+        ($step, $line, $answer)
+    };
+}
+
 /// The drilled hole with these numbers: spindle speed, heights and dwell.
 macro_rules! drilled {
     ($spindle:expr, $sec:expr, $ret:expr, $z0:expr, $bottom:expr, $dwell:expr) => {

@@ -23,179 +23,51 @@ pub const SHARED: &str = "#45=MILLING_TECHNOLOGY(0.04,$,$,20.);\n\
 
 /// What is missing, turned or out of its range.
 const FAULTS: [Row; 31] = [
-    (
-        10,
-        "#10=MACHINING_WORKINGSTEP('',$,#20,#30);",
-        Err(Missing(10, 2)),
-    ),
-    (10, "#20=ROUND_HOLE('',$,$,$,#51,10.);", Err(Missing(20, 4))),
-    (
-        10,
-        "#30=DRILLING((),$,$,5.,$,#46,#45,$,$,$,$,$);",
-        Err(Missing(30, 6)),
-    ),
-    (
-        10,
-        "#45=MILLING_TECHNOLOGY(0.04,$,$,$);",
-        Err(Missing(45, 4)),
-    ),
-    (
-        10,
-        "#60=AXIS2_PLACEMENT_3D('',#70,#74,#70);",
-        Err(Missing(60, 4)),
-    ),
-    (
-        10,
-        "#62=AXIS2_PLACEMENT_3D('',#74,$,$);",
-        Err(Missing(62, 2)),
-    ),
-    (10, "#50=PLANE('',#70);", Err(Missing(50, 2))),
-    (
-        10,
-        "#60=AXIS2_PLACEMENT_3D('',#70,#70,$);",
-        Err(Missing(60, 3)),
-    ),
-    (
-        10,
-        "#20=ROUND_HOLE('',$,$,#60,#60,10.);",
-        Err(Missing(20, 5)),
-    ),
-    (
-        10,
-        "#30=DRILLING($,$,$,#46,$,#44,#45,$,$,$,$,$);",
-        Err(Missing(30, 4)),
-    ),
-    (
-        10,
-        "#30=DRILLING($,$,$,5.,$,#44,#44,$,$,$,$,$);",
-        Err(Missing(30, 7)),
-    ),
-    (10, "#45=MILLING_TECHNOLOGY($,$,$,$);", Err(Missing(45, 1))),
-    (
-        10,
-        "#30=DRILLING((),$,$,-5.,$,#44,#45,$,$,$,$,$);",
-        Err(HasToolpath(30)),
-    ),
-    (
-        10,
-        "#60=AXIS2_PLACEMENT_3D('',#70,#74,$);",
-        Err(BadDirection(74)),
-    ),
-    (
-        10,
-        "#61=AXIS2_PLACEMENT_3D('',#71,$,#75);",
-        Err(BadDirection(75)),
-    ),
-    (
-        10,
-        "#72=CARTESIAN_POINT('',(0.,0.,0.));",
-        Err(NotPositive(20, 5)),
-    ),
-    (
-        10,
-        "#45=MILLING_TECHNOLOGY(0.,$,$,100000.001);",
-        Err(NotPositive(45, 1)),
-    ),
-    (
-        10,
-        "#71=CARTESIAN_POINT('',(0.,0.,-100000.001));",
-        Err(OutOfRange(71, 2)),
-    ),
-    (
-        10,
-        "#70=CARTESIAN_POINT('',(10.,100000.001,0.));",
-        Err(OutOfRange(70, 2)),
-    ),
-    (
-        10,
-        "#72=CARTESIAN_POINT('',(0.,0.,-100000.001));",
-        Err(OutOfRange(72, 2)),
-    ),
-    (
-        10,
-        "#30=DRILLING($,$,$,-5.,$,#44,#45,$,$,$,$,-0.001);",
-        Err(OutOfRange(30, 4)),
-    ),
-    (
-        10,
-        "#45=MILLING_TECHNOLOGY(0.04,$,$,-100000.001);",
-        Err(OutOfRange(45, 4)),
-    ),
-    (
-        10,
-        "#45=MILLING_TECHNOLOGY(100000.001,$,$,100000.001);",
-        Err(OutOfRange(45, 1)),
-    ),
-    (
-        10,
-        "#50=CARTESIAN_POINT('',(0.,0.,30.));",
-        Err(Missing(10, 2)),
-    ),
-    (10, "#61=PLANE('',#71);", Err(Missing(50, 2))),
-    (10, "#71=DIRECTION('',(0.,0.,30.));", Err(Missing(61, 2))),
-    (10, "#44=TWIST_DRILL($);", Err(Missing(30, 6))),
-    (
-        10,
-        "#60=AXIS2_PLACEMENT_3D('',#70,#93,#94);",
-        Err(BadDirection(93)),
-    ),
-    (
-        10,
-        "#60=AXIS2_PLACEMENT_3D('',#70,$,#94);",
-        Err(BadDirection(94)),
-    ),
-    (
-        10,
-        "#62=AXIS2_PLACEMENT_3D('',#72,$,#93);",
-        Err(BadDirection(93)),
-    ),
-    (
-        10,
-        "#30=DRILLING($,$,$,#92,$,#44,#45,$,$,$,$,$);",
-        Err(OutOfRange(30, 4)),
-    ),
+    row!(10 "#10=MACHINING_WORKINGSTEP('',$,#20,#30);" Err(Missing(10, 2))),
+    row!(10 "#20=ROUND_HOLE('',$,$,$,#51,10.);" Err(Missing(20, 4))),
+    row!(10 "#30=DRILLING((),$,$,5.,$,#46,#45,$,$,$,$,$);" Err(Missing(30, 6))),
+    row!(10 "#45=MILLING_TECHNOLOGY(0.04,$,$,$);" Err(Missing(45, 4))),
+    row!(10 "#60=AXIS2_PLACEMENT_3D('',#70,#74,#70);" Err(Missing(60, 4))),
+    row!(10 "#62=AXIS2_PLACEMENT_3D('',#74,$,$);" Err(Missing(62, 2))),
+    row!(10 "#50=PLANE('',#70);" Err(Missing(50, 2))),
+    row!(10 "#60=AXIS2_PLACEMENT_3D('',#70,#70,$);" Err(Missing(60, 3))),
+    row!(10 "#20=ROUND_HOLE('',$,$,#60,#60,10.);" Err(Missing(20, 5))),
+    row!(10 "#30=DRILLING($,$,$,#46,$,#44,#45,$,$,$,$,$);" Err(Missing(30, 4))),
+    row!(10 "#30=DRILLING($,$,$,5.,$,#44,#44,$,$,$,$,$);" Err(Missing(30, 7))),
+    row!(10 "#45=MILLING_TECHNOLOGY($,$,$,$);" Err(Missing(45, 1))),
+    row!(10 "#30=DRILLING((),$,$,-5.,$,#44,#45,$,$,$,$,$);" Err(HasToolpath(30))),
+    row!(10 "#60=AXIS2_PLACEMENT_3D('',#70,#74,$);" Err(BadDirection(74))),
+    row!(10 "#61=AXIS2_PLACEMENT_3D('',#71,$,#75);" Err(BadDirection(75))),
+    row!(10 "#72=CARTESIAN_POINT('',(0.,0.,0.));" Err(NotPositive(20, 5))),
+    row!(10 "#45=MILLING_TECHNOLOGY(0.,$,$,100000.001);" Err(NotPositive(45, 1))),
+    row!(10 "#71=CARTESIAN_POINT('',(0.,0.,-100000.001));" Err(OutOfRange(71, 2))),
+    row!(10 "#70=CARTESIAN_POINT('',(10.,100000.001,0.));" Err(OutOfRange(70, 2))),
+    row!(10 "#72=CARTESIAN_POINT('',(0.,0.,-100000.001));" Err(OutOfRange(72, 2))),
+    row!(10 "#30=DRILLING($,$,$,-5.,$,#44,#45,$,$,$,$,-0.001);" Err(OutOfRange(30, 4))),
+    row!(10 "#45=MILLING_TECHNOLOGY(0.04,$,$,-100000.001);" Err(OutOfRange(45, 4))),
+    row!(10 "#45=MILLING_TECHNOLOGY(100000.001,$,$,100000.001);" Err(OutOfRange(45, 1))),
+    row!(10 "#50=CARTESIAN_POINT('',(0.,0.,30.));" Err(Missing(10, 2))),
+    row!(10 "#61=PLANE('',#71);" Err(Missing(50, 2))),
+    row!(10 "#71=DIRECTION('',(0.,0.,30.));" Err(Missing(61, 2))),
+    row!(10 "#44=TWIST_DRILL($);" Err(Missing(30, 6))),
+    row!(10 "#60=AXIS2_PLACEMENT_3D('',#70,#93,#94);" Err(BadDirection(93))),
+    row!(10 "#60=AXIS2_PLACEMENT_3D('',#70,$,#94);" Err(BadDirection(94))),
+    row!(10 "#62=AXIS2_PLACEMENT_3D('',#72,$,#93);" Err(BadDirection(93))),
+    row!(10 "#30=DRILLING($,$,$,#92,$,#44,#45,$,$,$,$,$);" Err(OutOfRange(30, 4))),
 ];
 
 /// What is as it should be, or is not looked at.
 const FOUND: [Row; 10] = [
-    (10, "#60=AXIS2_PLACEMENT_3D('',#70,#75,$);", Ok(DRILLED)),
-    (10, "#45=MILLING_TECHNOLOGY(0.04,$,$,20.);", Ok(DRILLED)),
-    (10, "#61=AXIS2_PLACEMENT_3D('',#71,#75,#78);", Ok(DRILLED)),
-    (
-        10,
-        "#71=CARTESIAN_POINT('',(100000.001,-100000.001,30.));",
-        Ok(DRILLED),
-    ),
-    (
-        10,
-        "#72=CARTESIAN_POINT('',(100000.001,-100000.001,-15.));",
-        Ok(DRILLED),
-    ),
-    (
-        10,
-        "#71=CARTESIAN_POINT('',(0.,0.,-100000.));",
-        Ok(drilled!(20_000, -100_000_000, 5_000, 0, -15_000, 0)),
-    ),
-    (
-        10,
-        "#70=CARTESIAN_POINT('',(10.,20.,-1.));",
-        Ok(drilled!(20_000, 30_000, 4_000, -1_000, -16_000, 0)),
-    ),
-    (
-        10,
-        "#30=DRILLING($,$,$,0.,$,#44,#45,$,$,$,$,$);",
-        Ok(drilled!(20_000, 30_000, 0, 0, -15_000, 0)),
-    ),
-    (
-        10,
-        "#30=DRILLING($,$,$,#91,$,#44,#45,$,$,$,$,$);",
-        Ok(DRILLED),
-    ),
-    (
-        10,
-        "#45=MILLING_TECHNOLOGY(0.04,$,$,-100000.);",
-        Ok(drilled!(-100_000_000, 30_000, 5_000, 0, -15_000, 0)),
-    ),
+    row!(10 "#60=AXIS2_PLACEMENT_3D('',#70,#75,$);" Ok(DRILLED)),
+    row!(10 "#45=MILLING_TECHNOLOGY(0.04,$,$,20.);" Ok(DRILLED)),
+    row!(10 "#61=AXIS2_PLACEMENT_3D('',#71,#75,#78);" Ok(DRILLED)),
+    row!(10 "#71=CARTESIAN_POINT('',(100000.001,-100000.001,30.));" Ok(DRILLED)),
+    row!(10 "#72=CARTESIAN_POINT('',(100000.001,-100000.001,-15.));" Ok(DRILLED)),
+    row!(10 "#71=CARTESIAN_POINT('',(0.,0.,-100000.));" Ok(drilled!(20_000, -100_000_000, 5_000, 0, -15_000, 0))),
+    row!(10 "#70=CARTESIAN_POINT('',(10.,20.,-1.));" Ok(drilled!(20_000, 30_000, 4_000, -1_000, -16_000, 0))),
+    row!(10 "#30=DRILLING($,$,$,0.,$,#44,#45,$,$,$,$,$);" Ok(drilled!(20_000, 30_000, 0, 0, -15_000, 0))),
+    row!(10 "#30=DRILLING($,$,$,#91,$,#44,#45,$,$,$,$,$);" Ok(DRILLED)),
+    row!(10 "#45=MILLING_TECHNOLOGY(0.04,$,$,-100000.);" Ok(drilled!(-100_000_000, 30_000, 5_000, 0, -15_000, 0))),
 ];
 
 #[test]
@@ -211,8 +83,8 @@ fn definitions_of_steps(rt: HostRuntime) -> Result<(), Fail> {
 #[test]
 fn other_instances_are_no_workingsteps(rt: HostRuntime) -> Result<(), Fail> {
     let rows = [
-        (20, "#46=TWIST_DRILL($);", Err(Missing(20, 2))),
-        (99, "#46=TWIST_DRILL($);", Err(Missing(99, 2))),
+        row!(20 "#46=TWIST_DRILL($);" Err(Missing(20, 2))),
+        row!(99 "#46=TWIST_DRILL($);" Err(Missing(99, 2))),
     ];
     expect_rows(&rt, rt.alloc(), &rows, false)
 }
