@@ -138,8 +138,8 @@ fn expect_late(
 
 #[test]
 fn faults_behind_a_slice_keep_their_places(rt: HostRuntime) -> Result<(), Fail> {
-    for (parts, late, before_end) in LATE {
-        expect_late(&rt, rt.alloc(), parts, late, before_end)?;
+    for (parts, late, before_end) in &LATE {
+        expect_late(&rt, rt.alloc(), *parts, *late, *before_end)?;
     }
     Ok(())
 }
@@ -227,6 +227,22 @@ fn reached(project: &Project, alloc: Global, n: u32) -> Result<NumberList, NoMem
     project.store.closure(alloc, n)
 }
 
+fn reached_count(project: &Project, alloc: Global, n: u32) -> Result<u32, NoMemory> {
+    Ok(reached(project, alloc, n)?.len())
+}
+
+fn expect_counts(
+    rt: &impl Abort,
+    alloc: Global,
+    project: &Project,
+    counts: &[(u32, u32)],
+) -> Result<(), Fail> {
+    for (n, count) in counts {
+        assert_eq!(rt; reached_count(project, alloc, *n)?, *count);
+    }
+    Ok(())
+}
+
 /// Stops unless a file of these parts has 200,000 entities, and these entities use so many.
 fn expect_reached(
     rt: &impl Abort,
@@ -237,10 +253,7 @@ fn expect_reached(
     let text = file(alloc, parts)?;
     let project = project(rt, alloc, text.as_slice())?;
     assert_eq!(rt; project.store.len(), 200_000);
-    for (n, count) in counts {
-        assert_eq!(rt; reached(&project, alloc, *n)?.len(), *count);
-    }
-    Ok(())
+    expect_counts(rt, alloc, &project, counts)
 }
 
 /// 199,997 planes from number 3 on, each of which refers to the next, and a channel as the last.

@@ -72,8 +72,8 @@ const FAULTS: [(&str, StoreErr); 7] = [
 
 #[test]
 fn first_faults_are_told(rt: HostRuntime) -> Result<(), Fail> {
-    for (text, want) in FAULTS {
-        expect_fault(&rt, rt.alloc(), text, want)?;
+    for (text, want) in &FAULTS {
+        expect_fault(&rt, rt.alloc(), *text, *want)?;
     }
     Ok(())
 }
@@ -184,8 +184,8 @@ fn expect_found(
 
 #[test]
 fn each_number_is_found(rt: HostRuntime) -> Result<(), Fail> {
-    for (text, numbers, other) in ORDERS {
-        expect_found(&rt, rt.alloc(), text, &numbers, other)?;
+    for (text, numbers, other) in &ORDERS {
+        expect_found(&rt, rt.alloc(), *text, numbers, *other)?;
     }
     Ok(())
 }

@@ -1,10 +1,9 @@
 //! Texts that are read as exchanges, or refused.
 
-use crate::rows::{bytes_of, row};
+use crate::rows::{bytes_of, number, row};
 use crate::shared::{HEAD, TAIL, expect, joined, read_text};
-use ReadErr::{Duplicate, Lex, Syntax, TooDeep, TooMany};
+use ReadErr::{Duplicate, TooMany};
 use nc_base::NoMemory;
-use p21_lex::LexErr::OpenString;
 use p21_parse::{
     Instance, MAX_INSTANCES, Param, ParamList, Part, ReadErr, grammar_laws, instance_laws,
     text_laws,
@@ -84,238 +83,59 @@ const INSTANCES: &str = "|\n\
     #5=;¶#5=A();¶|Syntax(142)\n\
     #5=A()#5=A();¶|Syntax(145)\n";
 
-// Texts in pieces, each so many times, and why they are refused, if they are.
-type Row<'a> = (&'a [(&'a [u8], u32)], Option<ReadErr>);
+// In each row the parts of a text, between `+`, and why it is refused, or nothing. `@` names a text, and `×32` says that the part stands
+// there 32 times.
 
-const HEADERS: &[Row<'static>] = &[
-    (&[], Some(Syntax(0))),
-    (&[(b" ", 9), (b"/* */", 1)], Some(Syntax(14))),
-    (&[(b"HEADER;", 1)], Some(Syntax(0))),
-    (&[(b"ISO-10303-21", 1)], Some(Syntax(12))),
-    (
-        &[(TOP, 1), (b"FILE_DESCRIPTION(('AB", 1)],
-        Some(Lex(OpenString(40))),
-    ),
-    (&[(TOP, 1), (b"FILE_NAME('','');\n", 1)], Some(Syntax(22))),
-    (
-        &[(TOP, 1), (b"FILE_DESCRIPTION((''));\n", 1)],
-        Some(Syntax(43)),
-    ),
-    (
-        &[(TOP, 1), (b"FILE_DESCRIPTION('','','');\n", 1)],
-        Some(Syntax(44)),
-    ),
-    (&[(DESCRIBED, 1)], Some(Syntax(52))),
-    // Six and eight parameters.
-    (
-        &[(DESCRIBED, 1), (b"FILE_NAME('A','',(''),(''),'','');\n", 1)],
-        Some(Syntax(84)),
-    ),
-    (
-        &[
-            (DESCRIBED, 1),
-            (b"FILE_NAME('A','',(''),(''),'','','','');\n", 1),
-        ],
-        Some(Syntax(87)),
-    ),
-    // Schemas.
-    (&[(NAMED, 1), (b"FILE_SCHEMA();\n", 1)], Some(Syntax(102))),
-    (&[(NAMED, 1), (b"FILE_SCHEMA(());\n", 1)], Some(Syntax(103))),
-    (
-        &[(NAMED, 1), (b"FILE_SCHEMA((1));\n", 1)],
-        Some(Syntax(103)),
-    ),
-    (
-        &[(NAMED, 1), (b"FILE_SCHEMA('M');\n", 1)],
-        Some(Syntax(102)),
-    ),
-    (
-        &[(NAMED, 1), (b"FILE_SCHEMA(('M',));\n", 1)],
-        Some(Syntax(107)),
-    ),
-    (
-        &[(NAMED, 1), (b"FILE_SCHEMA(('M'),1);\n", 1)],
-        Some(Syntax(107)),
-    ),
-    // Further entries.
-    (
-        &[(HEADED, 1), (b"ENDSEC(1);\n", 2), (DATA, 1), (TAIL, 1)],
-        None,
-    ),
-    (
-        &[
-            (HEADED, 1),
-            (b"DATA(1,());!X(A(*));", 1),
-            (DATA, 1),
-            (TAIL, 1),
-        ],
-        None,
-    ),
-    (&[(HEADED, 1), (b"EXTRA();\n", 1)], Some(Syntax(131))),
-    (&[(HEADED, 1), (b"ENDSEC();\n", 1)], Some(Syntax(132))),
-    (&[(HEADED, 1), (b"ENDSEC X", 1)], Some(Syntax(132))),
-    (&[(HEADED, 1), (b"A-B(1);\n", 1)], Some(Syntax(125))),
-    (
-        &[(HEADED, 1), (b"ENDSEC;\nDATA(1);\n", 1)],
-        Some(Syntax(137)),
-    ),
-    // Ends.
-    (&[(HEAD, 1)], Some(Syntax(139))),
-    (&[(HEAD, 1), (b"END-ISO-10303-21;", 1)], Some(Syntax(139))),
-    (&[(HEAD, 1), (b"ENDSEC;\n", 1)], Some(Syntax(147))),
-    (
-        &[(HEAD, 1), (b"ENDSEC;\nEND-ISO-10303-21", 1)],
-        Some(Syntax(163)),
-    ),
-    (
-        &[(HEAD, 1), (TAIL, 1), (b"#5=A();\n", 1)],
-        Some(Syntax(165)),
-    ),
-    (&[(HEAD, 1), (TAIL, 1), (b";", 1)], Some(Syntax(165))),
-    (
-        &[(b" /* */ ", 1), (HEAD, 1), (TAIL, 1), (b"/* */\n", 2)],
-        None,
-    ),
-    (&[(HEAD, 1), (b"#5=A();\n#6=A(", 1)], Some(Syntax(152))),
-    // A text that ends with the number that comes twice.
-    (&[(HEAD, 1), (b"#5=A();\n#5", 1)], Some(Duplicate(5))),
-];
+/// Headers, their schemas and further entries, ends of files, and a text that ends with the number that comes twice.
+const HEADERS: &str = "|Syntax(0)\n\
+    \x20×9+/* */|Syntax(14)\n\
+    HEADER;|Syntax(0)\n\
+    ISO-10303-21|Syntax(12)\n\
+    @TOP+FILE_DESCRIPTION(('AB|Lex(OpenString(40))\n\
+    @TOP+FILE_NAME('','');¶|Syntax(22)\n\
+    @TOP+FILE_DESCRIPTION((''));¶|Syntax(43)\n\
+    @TOP+FILE_DESCRIPTION('','','');¶|Syntax(44)\n\
+    @DESCRIBED|Syntax(52)\n\
+    @DESCRIBED+FILE_NAME('A','',(''),(''),'','');¶|Syntax(84)\n\
+    @DESCRIBED+FILE_NAME('A','',(''),(''),'','','','');¶|Syntax(87)\n\
+    @NAMED+FILE_SCHEMA();¶|Syntax(102)\n\
+    @NAMED+FILE_SCHEMA(());¶|Syntax(103)\n\
+    @NAMED+FILE_SCHEMA((1));¶|Syntax(103)\n\
+    @NAMED+FILE_SCHEMA('M');¶|Syntax(102)\n\
+    @NAMED+FILE_SCHEMA(('M',));¶|Syntax(107)\n\
+    @NAMED+FILE_SCHEMA(('M'),1);¶|Syntax(107)\n\
+    @HEADED+ENDSEC(1);¶×2+@DATA+@TAIL|\n\
+    @HEADED+DATA(1,());!X(A(*));+@DATA+@TAIL|\n\
+    @HEADED+EXTRA();¶|Syntax(131)\n\
+    @HEADED+ENDSEC();¶|Syntax(132)\n\
+    @HEADED+ENDSEC X|Syntax(132)\n\
+    @HEADED+A-B(1);¶|Syntax(125)\n\
+    @HEADED+ENDSEC;¶DATA(1);¶|Syntax(137)\n\
+    @HEAD|Syntax(139)\n\
+    @HEAD+END-ISO-10303-21;|Syntax(139)\n\
+    @HEAD+ENDSEC;¶|Syntax(147)\n\
+    @HEAD+ENDSEC;¶END-ISO-10303-21|Syntax(163)\n\
+    @HEAD+@TAIL+#5=A();¶|Syntax(165)\n\
+    @HEAD+@TAIL+;|Syntax(165)\n\
+    \x20/* */ +@HEAD+@TAIL+/* */¶×2|\n\
+    @HEAD+#5=A();¶#6=A(|Syntax(152)\n\
+    @HEAD+#5=A();¶#5|Duplicate(5)\n";
 
-const NESTED: &[Row<'static>] = &[
-    // Lists.
-    (
-        &[
-            (HEAD, 1),
-            (b"#5=A", 1),
-            (b"(", 32),
-            (b")", 32),
-            (b";", 1),
-            (TAIL, 1),
-        ],
-        None,
-    ),
-    (
-        &[
-            (HEAD, 1),
-            (b"#5=A", 1),
-            (b"(", 33),
-            (b")", 33),
-            (b";", 1),
-            (TAIL, 1),
-        ],
-        Some(TooDeep(175)),
-    ),
-    (&[(HEAD, 1), (b"#5=A", 1), (b"(", 32)], Some(Syntax(175))),
-    (
-        &[
-            (HEAD, 1),
-            (b"#5=A(", 1),
-            (b"(),", 40),
-            (b"1);", 1),
-            (TAIL, 1),
-        ],
-        None,
-    ),
-    // Typed parameters.
-    (
-        &[
-            (HEAD, 1),
-            (b"#5=A(", 1),
-            (b"B(", 31),
-            (b"1", 1),
-            (b")", 32),
-            (b";", 1),
-            (TAIL, 1),
-        ],
-        None,
-    ),
-    (
-        &[
-            (HEAD, 1),
-            (b"#5=A(", 1),
-            (b"B(", 32),
-            (b"1", 1),
-            (b")", 33),
-            (b";", 1),
-            (TAIL, 1),
-        ],
-        Some(TooDeep(207)),
-    ),
-    (
-        &[(HEAD, 1), (b"#5=A(", 1), (b"B(", 31), (b"B", 1), (b")", 32)],
-        Some(Syntax(207)),
-    ),
-    // Complex instances.
-    (
-        &[
-            (HEAD, 1),
-            (b"#5=(A()B", 1),
-            (b"(", 32),
-            (b")", 33),
-            (b";", 1),
-            (TAIL, 1),
-        ],
-        None,
-    ),
-    (
-        &[
-            (HEAD, 1),
-            (b"#5=(A()B", 1),
-            (b"(", 33),
-            (b")", 34),
-            (b";", 1),
-            (TAIL, 1),
-        ],
-        Some(TooDeep(179)),
-    ),
-    // The header.
-    (
-        &[
-            (HEADED, 1),
-            (b"E", 1),
-            (b"(", 32),
-            (b"1", 1),
-            (b")", 32),
-            (b";", 1),
-            (DATA, 1),
-            (TAIL, 1),
-        ],
-        None,
-    ),
-    (
-        &[
-            (HEADED, 1),
-            (b"E", 1),
-            (b"(", 33),
-            (b"1", 1),
-            (b")", 33),
-            (b";", 1),
-            (DATA, 1),
-            (TAIL, 1),
-        ],
-        Some(TooDeep(158)),
-    ),
-    (
-        &[(TOP, 1), (b"FILE_DESCRIPTION", 1), (b"(", 33)],
-        Some(TooDeep(70)),
-    ),
-    // Beside a number that comes twice.
-    (
-        &[(HEAD, 1), (b"#5=A();\n", 2), (b"#6=A", 1), (b"(", 33)],
-        Some(Duplicate(5)),
-    ),
-    (
-        &[
-            (HEAD, 1),
-            (b"#5=A", 1),
-            (b"(", 33),
-            (b")", 33),
-            (b";\n#5=A();\n", 1),
-            (TAIL, 1),
-        ],
-        Some(TooDeep(175)),
-    ),
-];
+/// Lists, typed parameters and complex instances in one another, the same in the header, and beside a number that comes twice.
+const NESTED: &str = "@HEAD+#5=A+(×32+)×32+;+@TAIL|\n\
+    @HEAD+#5=A+(×33+)×33+;+@TAIL|TooDeep(175)\n\
+    @HEAD+#5=A+(×32|Syntax(175)\n\
+    @HEAD+#5=A(+(),×40+1);+@TAIL|\n\
+    @HEAD+#5=A(+B(×31+1+)×32+;+@TAIL|\n\
+    @HEAD+#5=A(+B(×32+1+)×33+;+@TAIL|TooDeep(207)\n\
+    @HEAD+#5=A(+B(×31+B+)×32|Syntax(207)\n\
+    @HEAD+#5=(A()B+(×32+)×33+;+@TAIL|\n\
+    @HEAD+#5=(A()B+(×33+)×34+;+@TAIL|TooDeep(179)\n\
+    @HEADED+E+(×32+1+)×32+;+@DATA+@TAIL|\n\
+    @HEADED+E+(×33+1+)×33+;+@DATA+@TAIL|TooDeep(158)\n\
+    @TOP+FILE_DESCRIPTION+(×33|TooDeep(70)\n\
+    @HEAD+#5=A();¶×2+#6=A+(×33|Duplicate(5)\n\
+    @HEAD+#5=A+(×33+)×33+;¶#5=A();¶+@TAIL|TooDeep(175)\n";
 
 // What follows instances 1 to 199,999, whose numbers go from 100,001 on and which take 12 bytes each, and why the file is refused, if it is.
 const LAST: &[(&[u8], Option<ReadErr>)] = &[
@@ -385,11 +205,50 @@ fn instances_are_read_or_refused_at_their_place(rt: HostRuntime) -> Result<(), F
     Ok(())
 }
 
+// The bytes of a part.
+fn part_bytes(alloc: Global, part: &str) -> Result<Vec<u8>, AllocError> {
+    match part {
+        "@TOP" => Vec::from_slice(alloc, TOP),
+        "@DESCRIBED" => Vec::from_slice(alloc, DESCRIBED),
+        "@NAMED" => Vec::from_slice(alloc, NAMED),
+        "@HEADED" => Vec::from_slice(alloc, HEADED),
+        "@DATA" => Vec::from_slice(alloc, DATA),
+        "@HEAD" => Vec::from_slice(alloc, HEAD),
+        "@TAIL" => Vec::from_slice(alloc, TAIL),
+        _ => bytes_of(alloc, part),
+    }
+}
+
+fn put_part(alloc: Global, text: &mut Vec<u8>, part: &str) -> Result<(), AllocError> {
+    let (part, times) = part.split_once('×').unwrap_or((part, "1"));
+    let bytes = part_bytes(alloc, part)?;
+    for _ in 0..number(times) {
+        text.extend_from_slice(&bytes)?;
+    }
+    Ok(())
+}
+
+fn text_of(alloc: Global, parts: &str) -> Result<Vec<u8>, AllocError> {
+    let mut text = Vec::new(alloc);
+    for part in parts.split('+') {
+        put_part(alloc, &mut text, part)?;
+    }
+    Ok(text)
+}
+
+fn expect_parts(rt: &impl Abort, alloc: Global, line: &str) -> Result<(), Fail> {
+    let (parts, want) = row(line);
+    let text = text_of(alloc, parts)?;
+    let found = shown(rt, alloc, text.as_slice())?;
+    assert_eq!(rt; found.as_str(), want, "of {line}");
+    Ok(())
+}
+
 #[test]
 fn files_are_read_or_refused_at_their_place(rt: HostRuntime) -> Result<(), Fail> {
-    for rows in [HEADERS, NESTED] {
-        for (pieces, refusal) in rows {
-            expect_refusal(&rt, rt.alloc(), *pieces, *refusal)?;
+    for table in [HEADERS, NESTED] {
+        for line in table.lines() {
+            expect_parts(&rt, rt.alloc(), line)?;
         }
     }
     Ok(())
