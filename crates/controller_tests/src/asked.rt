@@ -1,12 +1,11 @@
 //! Calls of the controller over files and a sink in memory.
 
-use crate::projects::HOLE;
-use controller::{Status, quick};
+use controller::{Status, quick, top};
 use nc_base::{NcText, NoMemory};
-use nc_outside::{MemoryFiles, MemorySink};
+use nc_outside::{Files, FreeGate, MemoryFiles, MemorySink, Sink};
 use std::alloc::Global;
+use std::fmt::Debug;
 use std::process::Abort;
-use std::test::Fail;
 
 /// The words of a replay of `plate.stp`.
 pub const REPLAY: [&str; 5] = ["replay", "plate.stp", "-", "-", "100"];
@@ -30,68 +29,56 @@ pub fn files_with(alloc: Global, text: &str) -> Result<MemoryFiles, NoMemory> {
     Ok(files)
 }
 
+/// The status that the words give over these files and this sink. It promises nothing, so that each caller is proved without what
+/// `quick` promises.
+pub fn status_of<F: Files, S: Sink>(
+    alloc: Global,
+    words: &[&str],
+    files: &mut F,
+    sink: &mut S,
+) -> Result<Status, NoMemory> {
+    let words = texts(alloc, words)?;
+    Ok(quick(alloc, words.as_slice(), files, sink))
+}
+
+/// The same of `top`.
+pub fn top_status_of<F: Files, S: Sink>(
+    rt: HostRuntime,
+    words: &[&str],
+    files: &mut F,
+    sink: &mut S,
+) -> Result<Status, NoMemory> {
+    let words = texts(rt.alloc(), words)?;
+    Ok(top(&rt, words.as_slice(), files, sink, &FreeGate))
+}
+
 /// The status that the words give, and the sink, where `plate.stp` holds the text.
 pub fn answered(
     alloc: Global,
     text: &str,
     words: &[&str],
 ) -> Result<(Status, MemorySink), NoMemory> {
-    let words = texts(alloc, words)?;
     let mut files = files_with(alloc, text)?;
     let mut sink = MemorySink::new(alloc, 4_000_000)?;
-    let status = quick(alloc, words.as_slice(), &mut files, &mut sink);
+    let status = status_of(alloc, words, &mut files, &mut sink)?;
     Ok((status, sink))
 }
 
-/// Stops unless the words give this status and these bytes, where `plate.stp` holds the text.
-pub fn expect_said(
-    rt: &impl Abort,
-    alloc: Global,
-    text: &str,
-    words: &[&str],
-    status: Status,
-    written: &str,
-) -> Result<(), Fail> {
-    let (said, sink) = answered(alloc, text, words)?;
-    assert_eq!(rt; said, status);
-    assert_eq!(rt; sink.bytes(), written.as_bytes());
-    Ok(())
+/// The text with a part of it in place of another. It promises nothing, like `status_of`.
+pub fn replaced(alloc: Global, text: &str, old: &str, new: &str) -> Result<String, NoMemory> {
+    Ok(text.replace(alloc, old, new)?)
 }
 
-/// Stops unless the words are refused with status 4 for this reason, where `plate.stp` holds the text.
-pub fn expect_refused(
-    rt: &impl Abort,
-    alloc: Global,
-    text: &str,
-    words: &[&str],
-    reason: &str,
-) -> Result<(), Fail> {
-    let (said, sink) = answered(alloc, text, words)?;
-    let line = format!(in alloc; "refused {reason}\n")?;
-    assert_eq!(rt; said.code(), 4);
-    assert_eq!(rt; sink.bytes(), line.as_bytes());
-    Ok(())
+/// The text with parts of it in place of others.
+pub fn changed(alloc: Global, text: &str, changes: &[(&str, &str)]) -> Result<String, NoMemory> {
+    let mut whole = String::from_str(alloc, text)?;
+    for (old, new) in changes {
+        whole = replaced(alloc, &whole, *old, *new)?;
+    }
+    Ok(whole)
 }
 
-/// The drilled hole with a part of its text in place of another.
-pub fn hole_with(alloc: Global, old: &str, new: &str) -> Result<String, NoMemory> {
-    Ok(HOLE.replace(alloc, old, new)?)
-}
-
-/// How many lines the words write, where `plate.stp` holds the text.
-pub fn lines_written(alloc: Global, text: &str, words: &[&str]) -> Result<usize, NoMemory> {
-    let (_, sink) = answered(alloc, text, words)?;
-    Ok(sink.bytes().iter().filter(|b| **b == b'\n').count())
-}
-
-/// Stops unless the words write so many lines, where `plate.stp` holds the text.
-pub fn expect_lines(
-    rt: &impl Abort,
-    alloc: Global,
-    text: &str,
-    words: &[&str],
-    count: usize,
-) -> Result<(), Fail> {
-    assert_eq!(rt; lines_written(alloc, text, words)?, count);
-    Ok(())
+/// Stops unless the two are equal. A comparison is proved here once, and a test only calls it.
+pub fn expect<T: PartialEq + Debug + Drop>(rt: &impl Abort, found: T, wanted: T) {
+    assert_eq!(rt; found, wanted);
 }

@@ -3,11 +3,11 @@
 ghost use Rattle.std.specs.Prelude.{◌≡◌, ℕ, ◌≤◌, ◌<◌, List, [], length, Option};
 ghost use Rattle.nc_outside.specs.Outside.{Rose, Appends};
 
-use crate::asked::{PATH, REPLAY, files_with, hole_with, texts};
+use crate::asked::{PATH, REPLAY, expect, files_with, replaced, status_of, texts, top_status_of};
 use crate::projects::{HOLE, PLATE};
-use controller::{Status, quick, top};
+use controller::Status;
 use nc_base::{NcText, NoMemory};
-use nc_outside::{Failed, FileErr, Files, FreeGate, MemoryFiles, MemorySink, Sink};
+use nc_outside::{Failed, FileErr, Files, MemoryFiles, MemorySink, Sink};
 use std::alloc::Global;
 use std::process::Abort;
 use std::test::Fail;
@@ -73,18 +73,23 @@ impl<S: Sink + Drop> Sink for CountedSink<S> {
     }
 }
 
+fn counting<F: Files + Drop>(files: F, wanted: Vec<NcText>) -> CountedFiles<F> {
+    CountedFiles {
+        files,
+        wanted,
+        in_order: 0,
+        strays: 0,
+    }
+}
+
 /// Files with this text in `plate.stp` that want to be read once for each of these names.
 fn counted_files(
     alloc: Global,
     text: &str,
     names: &[&str],
 ) -> Result<CountedFiles<MemoryFiles>, NoMemory> {
-    Ok(CountedFiles {
-        files: files_with(alloc, text)?,
-        wanted: texts(alloc, names)?,
-        in_order: 0,
-        strays: 0,
-    })
+    let wanted = texts(alloc, names)?;
+    Ok(counting(files_with(alloc, text)?, wanted))
 }
 
 fn counted_sink(alloc: Global) -> Result<CountedSink<MemorySink>, NoMemory> {
@@ -95,6 +100,20 @@ fn counted_sink(alloc: Global) -> Result<CountedSink<MemorySink>, NoMemory> {
     })
 }
 
+/// How many reads were of the wanted names in their order and of others, and how many pieces were a line and not, where the words are
+/// asked of files with this text in `plate.stp`.
+fn counts(
+    alloc: Global,
+    text: &str,
+    words: &[&str],
+    names: &[&str],
+) -> Result<((usize, u32), (u32, u32)), NoMemory> {
+    let mut files = counted_files(alloc, text, names)?;
+    let mut sink = counted_sink(alloc)?;
+    status_of(alloc, words, &mut files, &mut sink)?;
+    Ok(((files.in_order, files.strays), (sink.lines, sink.others)))
+}
+
 /// Stops unless each name is read once, in this order, and no other.
 fn expect_reads(
     rt: &impl Abort,
@@ -103,12 +122,8 @@ fn expect_reads(
     words: &[&str],
     names: &[&str],
 ) -> Result<(), Fail> {
-    let words = texts(alloc, words)?;
-    let mut files = counted_files(alloc, text, names)?;
-    let mut sink = MemorySink::new(alloc, 100_000)?;
-    quick(alloc, words.as_slice(), &mut files, &mut sink);
-    assert_eq!(rt; files.in_order, names.len());
-    assert_eq!(rt; files.strays, 0);
+    let (reads, _) = counts(alloc, text, words, names)?;
+    assert_eq!(rt; reads, (names.len(), 0), "of {words:?}");
     Ok(())
 }
 
@@ -120,12 +135,8 @@ fn expect_pieces(
     words: &[&str],
     count: u32,
 ) -> Result<(), Fail> {
-    let words = texts(alloc, words)?;
-    let mut files = files_with(alloc, text)?;
-    let mut sink = counted_sink(alloc)?;
-    quick(alloc, words.as_slice(), &mut files, &mut sink);
-    assert_eq!(rt; sink.lines, count);
-    assert_eq!(rt; sink.others, 0);
+    let (_, pieces) = counts(alloc, text, words, &[])?;
+    assert_eq!(rt; pieces, (count, 0), "of {words:?}");
     Ok(())
 }
 
@@ -144,8 +155,8 @@ const READS: [(&[&str], &[&str]); 9] = [
 
 #[test]
 fn each_named_file_is_read_once(rt: HostRuntime) -> Result<(), Fail> {
-    for (words, names) in READS {
-        expect_reads(&rt, rt.alloc(), HOLE, words, names)?;
+    for (words, names) in &READS {
+        expect_reads(&rt, rt.alloc(), HOLE, *words, *names)?;
     }
     Ok(())
 }
@@ -160,7 +171,7 @@ const REFUSED: [(&str, &str); 5] = [
 ];
 
 fn expect_refused_reads(rt: &impl Abort, alloc: Global, old: &str, new: &str) -> Result<(), Fail> {
-    let text = hole_with(alloc, old, new)?;
+    let text = replaced(alloc, HOLE, old, new)?;
     expect_reads(rt, alloc, &text, &REPLAY, &["plate.stp"])?;
     expect_reads(rt, alloc, &text, &PATH, &["plate.stp"])?;
     expect_pieces(rt, alloc, &text, &REPLAY, 1)
@@ -168,36 +179,37 @@ fn expect_refused_reads(rt: &impl Abort, alloc: Global, old: &str, new: &str) ->
 
 #[test]
 fn a_refused_file_is_read_once_and_gives_one_line(rt: HostRuntime) -> Result<(), Fail> {
-    for (old, new) in REFUSED {
-        expect_refused_reads(&rt, rt.alloc(), old, new)?;
+    for (old, new) in &REFUSED {
+        expect_refused_reads(&rt, rt.alloc(), *old, *new)?;
     }
     Ok(())
 }
 
+/// What `plate.stp` holds, words, and how many lines they write.
+const LINES: [(&str, &[&str], u32); 6] = [
+    (HOLE, &REPLAY, 10),
+    (HOLE, &["replay", "plate.stp", "-", "-", "3"], 5),
+    (HOLE, &PATH, 6),
+    (PLATE, &["path", "plate.stp", "13"], 88),
+    (HOLE, &["path", "plate.stp", "20"], 1),
+    (HOLE, &["fly"], 1),
+];
+
 #[test]
 fn each_line_is_one_piece(rt: HostRuntime) -> Result<(), Fail> {
-    let rows: [(&str, &[&str], u32); 6] = [
-        (HOLE, &REPLAY, 10),
-        (HOLE, &["replay", "plate.stp", "-", "-", "3"], 5),
-        (HOLE, &PATH, 6),
-        (PLATE, &["path", "plate.stp", "13"], 88),
-        (HOLE, &["path", "plate.stp", "20"], 1),
-        (HOLE, &["fly"], 1),
-    ];
-    for (text, words, count) in rows {
-        expect_pieces(&rt, rt.alloc(), text, words, count)?;
+    for (text, words, count) in &LINES {
+        expect_pieces(&rt, rt.alloc(), *text, *words, *count)?;
     }
     Ok(())
 }
 
 #[test]
 fn top_reads_once_too(rt: HostRuntime) -> Result<(), Fail> {
-    let words = texts(rt.alloc(), &REPLAY)?;
     let mut files = counted_files(rt.alloc(), HOLE, &["plate.stp"])?;
     let mut sink = counted_sink(rt.alloc())?;
-    let status = top(&rt, words.as_slice(), &mut files, &mut sink, &FreeGate);
-    assert_eq!(rt; status, Status::Done);
-    assert_eq!(rt; (files.in_order, files.strays), (1, 0));
-    assert_eq!(rt; (sink.lines, sink.others), (10, 0));
+    let status = top_status_of(rt, &REPLAY, &mut files, &mut sink)?;
+    expect(&rt, status, Status::Done);
+    expect(&rt, (files.in_order, files.strays), (1, 0));
+    expect(&rt, (sink.lines, sink.others), (10, 0));
     Ok(())
 }

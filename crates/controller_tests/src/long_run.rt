@@ -1,6 +1,6 @@
 //! A long run of every kind of path, compared whole with the text that the format of logs gives it.
 
-use crate::asked::answered;
+use crate::asked::{answered, replaced};
 use controller::Status;
 use nc_base::NoMemory;
 use std::alloc::Global;
@@ -65,201 +65,172 @@ const FIRST_STEP: u32 = 1000;
 /// How many workingsteps there are.
 const STEPS: u32 = 3000;
 
-/// A kind of workingstep: its feature and operation, and the blocks of its path in the log's form.
-type Kind = (&'static str, &'static [&'static str]);
-
-/// The kinds, which the workingsteps have in turn. The blocks were worked out by hand.
-const KINDS: [Kind; 5] = [
+/// The kinds of workingsteps, which they have in turn: the instance in the file, and the lines of the log, with `@` in place of the
+/// workingstep's number. The blocks were worked out by hand.
+const KINDS: [(&str, &str); 5] = [
     (
-        "#20,#30",
-        &[
-            "T 40 20000",
-            "R 10000 20000 30000",
-            "R 10000 20000 5000",
-            "F 10000 20000 -15000 40",
-            "R 10000 20000 5000",
-            "R 10000 20000 30000",
-        ],
+        "#@=MACHINING_WORKINGSTEP('S',#50,#20,#30);\n",
+        "D @ 0\n\
+            B @ 0 T 40 20000\n\
+            B @ 1 R 10000 20000 30000\n\
+            B @ 2 R 10000 20000 5000\n\
+            B @ 3 F 10000 20000 -15000 40\n\
+            B @ 4 R 10000 20000 5000\n\
+            B @ 5 R 10000 20000 30000\n\
+            E @\n",
     ),
     (
-        "#20,#31",
-        &[
-            "T 40 20000",
-            "R 10000 20000 30000",
-            "R 10000 20000 5000",
-            "F 10000 20000 -15000 40",
-            "W 250",
-            "R 10000 20000 5000",
-            "R 10000 20000 30000",
-        ],
+        "#@=MACHINING_WORKINGSTEP('S',#50,#20,#31);\n",
+        "D @ 0\n\
+            B @ 0 T 40 20000\n\
+            B @ 1 R 10000 20000 30000\n\
+            B @ 2 R 10000 20000 5000\n\
+            B @ 3 F 10000 20000 -15000 40\n\
+            B @ 4 W 250\n\
+            B @ 5 R 10000 20000 5000\n\
+            B @ 6 R 10000 20000 30000\n\
+            E @\n",
     ),
     (
-        "#21,#32",
-        &[
-            "T 41 20000",
-            "R 0 0 30000",
-            "R 0 0 5000",
-            "F 0 0 -2000 40",
-            "F 100000 0 -2000 40",
-            "F 100000 20000 -2000 40",
-            "F 0 20000 -2000 40",
-            "R 0 20000 5000",
-            "R 0 20000 30000",
-        ],
+        "#@=MACHINING_WORKINGSTEP('S',#50,#21,#32);\n",
+        "D @ 0\n\
+            B @ 0 T 41 20000\n\
+            B @ 1 R 0 0 30000\n\
+            B @ 2 R 0 0 5000\n\
+            B @ 3 F 0 0 -2000 40\n\
+            B @ 4 F 100000 0 -2000 40\n\
+            B @ 5 F 100000 20000 -2000 40\n\
+            B @ 6 F 0 20000 -2000 40\n\
+            B @ 7 R 0 20000 5000\n\
+            B @ 8 R 0 20000 30000\n\
+            E @\n",
     ),
     (
-        "#21,#33",
-        &[
-            "T 41 20000",
-            "R 0 0 30000",
-            "R 0 0 5000",
-            "F 0 0 -1000 40",
-            "F 100000 0 -1000 40",
-            "F 0 20000 -1000 40",
-            "F 100000 20000 -1000 40",
-            "R 100000 20000 5000",
-            "R 0 0 5000",
-            "F 0 0 -2000 40",
-            "F 100000 0 -2000 40",
-            "F 0 20000 -2000 40",
-            "F 100000 20000 -2000 40",
-            "R 100000 20000 5000",
-            "R 100000 20000 30000",
-        ],
+        "#@=MACHINING_WORKINGSTEP('S',#50,#21,#33);\n",
+        "D @ 0\n\
+            B @ 0 T 41 20000\n\
+            B @ 1 R 0 0 30000\n\
+            B @ 2 R 0 0 5000\n\
+            B @ 3 F 0 0 -1000 40\n\
+            B @ 4 F 100000 0 -1000 40\n\
+            B @ 5 F 0 20000 -1000 40\n\
+            B @ 6 F 100000 20000 -1000 40\n\
+            B @ 7 R 100000 20000 5000\n\
+            B @ 8 R 0 0 5000\n\
+            B @ 9 F 0 0 -2000 40\n\
+            B @ 10 F 100000 0 -2000 40\n\
+            B @ 11 F 0 20000 -2000 40\n\
+            B @ 12 F 100000 20000 -2000 40\n\
+            B @ 13 R 100000 20000 5000\n\
+            B @ 14 R 100000 20000 30000\n\
+            E @\n",
     ),
     (
-        "#22,#34",
-        &[
-            "T 42 20000",
-            "R -11000 -1000 30000",
-            "R -11000 -1000 5000",
-            "F -11000 -1000 -5000 40",
-            "F 11000 -1000 -5000 40",
-            "F 11000 1000 -5000 40",
-            "F -11000 1000 -5000 40",
-            "F -11000 -1000 -5000 40",
-            "F -15000 -5000 -5000 40",
-            "F 15000 -5000 -5000 40",
-            "F 15000 5000 -5000 40",
-            "F -15000 5000 -5000 40",
-            "F -15000 -5000 -5000 40",
-            "R -15000 -5000 5000",
-            "R -15000 -5000 30000",
-        ],
+        "#@=MACHINING_WORKINGSTEP('S',#50,#22,#34);\n",
+        "D @ 0\n\
+            B @ 0 T 42 20000\n\
+            B @ 1 R -11000 -1000 30000\n\
+            B @ 2 R -11000 -1000 5000\n\
+            B @ 3 F -11000 -1000 -5000 40\n\
+            B @ 4 F 11000 -1000 -5000 40\n\
+            B @ 5 F 11000 1000 -5000 40\n\
+            B @ 6 F -11000 1000 -5000 40\n\
+            B @ 7 F -11000 -1000 -5000 40\n\
+            B @ 8 F -15000 -5000 -5000 40\n\
+            B @ 9 F 15000 -5000 -5000 40\n\
+            B @ 10 F 15000 5000 -5000 40\n\
+            B @ 11 F -15000 5000 -5000 40\n\
+            B @ 12 F -15000 -5000 -5000 40\n\
+            B @ 13 R -15000 -5000 5000\n\
+            B @ 14 R -15000 -5000 30000\n\
+            E @\n",
     ),
 ];
 
 /// The kind of a workingstep.
-fn kind_of(step: u32) -> Kind {
+fn kind_of(step: u32) -> (&'static str, &'static str) {
     KINDS[(step % 5) as usize]
 }
 
-fn put(text: &mut String, more: &str) -> Result<(), NoMemory> {
-    Ok(text.push_str(more)?)
+/// A form with the number of a workingstep in place of each `@`.
+fn filled(alloc: Global, form: &str, step: u32) -> Result<String, NoMemory> {
+    let number = FIRST_STEP.wrapping_add(step).to_string(alloc)?;
+    replaced(alloc, form, "@", &number)
 }
 
-fn put_element(alloc: Global, text: &mut String, step: u32) -> Result<(), NoMemory> {
-    let comma = if step == 0 { "" } else { "," };
-    let n = FIRST_STEP.wrapping_add(step);
-    put(text, &format!(in alloc; "{comma}#{n}")?)
+fn put_form(alloc: Global, text: &mut String, form: &str, step: u32) -> Result<(), NoMemory> {
+    Ok(text.push_str(&filled(alloc, form, step)?)?)
 }
 
-fn put_step(alloc: Global, text: &mut String, step: u32) -> Result<(), NoMemory> {
-    let (parts, _) = kind_of(step);
-    let n = FIRST_STEP.wrapping_add(step);
-    put(
-        text,
-        &format!(in alloc; "#{n}=MACHINING_WORKINGSTEP('S',#50,{parts});\n")?,
-    )
+/// A workplan of these workingsteps.
+fn workplan(alloc: Global) -> Result<String, NoMemory> {
+    let mut text = String::from_str(alloc, "#2=WORKPLAN('MAIN',(#1000")?;
+    for step in 1..STEPS {
+        put_form(alloc, &mut text, ",#@", step)?;
+    }
+    text.push_str("),$);\n")?;
+    Ok(text)
+}
+
+/// The instances of the workingsteps.
+fn workingsteps(alloc: Global) -> Result<String, NoMemory> {
+    let mut text = String::new(alloc);
+    for step in 0..STEPS {
+        let (instance, _) = kind_of(step);
+        put_form(alloc, &mut text, instance, step)?;
+    }
+    Ok(text)
 }
 
 /// A project of these workingsteps.
 fn project(alloc: Global) -> Result<String, NoMemory> {
+    let plan = workplan(alloc)?;
+    let steps = workingsteps(alloc)?;
+    Ok(format!(in alloc; "{HEAD}{plan}{steps}{TAIL}")?)
+}
+
+/// The lines of all entries of its whole run.
+fn entries(alloc: Global) -> Result<String, NoMemory> {
     let mut text = String::new(alloc);
-    put(&mut text, HEAD)?;
-    put(&mut text, "#2=WORKPLAN('MAIN',(")?;
     for step in 0..STEPS {
-        put_element(alloc, &mut text, step)?;
+        let (_, lines) = kind_of(step);
+        put_form(alloc, &mut text, lines, step)?;
     }
-    put(&mut text, "),$);\n")?;
-    for step in 0..STEPS {
-        put_step(alloc, &mut text, step)?;
-    }
-    put(&mut text, TAIL)?;
     Ok(text)
 }
 
-/// A log that is being built by the format's definition, up to so many entries.
-#[derive(Drop)]
-struct Expected {
-    text: String,
-    entries: u32,
-    limit: u32,
-}
-
-/// Puts the line of an entry, where the log may have one more.
-fn put_entry(log: &mut Expected, line: &str) -> Result<(), NoMemory> {
-    if log.entries < log.limit {
-        put(&mut log.text, line)?;
-        log.entries = log.entries.saturating_add(1);
+/// The log with so many of these lines, and this last one.
+fn log_of(alloc: Global, lines: &str, count: usize, last: &str) -> Result<String, NoMemory> {
+    let mut log = String::from_str(alloc, "STEPNC-LOG 1\n")?;
+    for line in lines.lines().take(count) {
+        log.push_str(line)?;
+        log.push_str("\n")?;
     }
-    Ok(())
+    log.push_str(last)?;
+    Ok(log)
 }
 
-fn put_block(
-    alloc: Global,
-    log: &mut Expected,
-    n: u32,
-    k: u32,
-    block: &str,
-) -> Result<(), NoMemory> {
-    put_entry(log, &format!(in alloc; "B {n} {k} {block}\n")?)
-}
+/// A limit, the status of the replay up to it, how many entries it has, and the log's last line.
+type Row = (&'static str, Status, usize, &'static str);
 
-fn put_blocks(alloc: Global, log: &mut Expected, n: u32, blocks: &[&str]) -> Result<(), NoMemory> {
-    let mut k = 0;
-    for block in blocks {
-        put_block(alloc, log, n, k, block)?;
-        k = u32::wrapping_add(k, 1);
-    }
-    Ok(())
-}
+const ROWS: [Row; 4] = [
+    ("2000000", Status::Done, 37_200, "end done 37200\n"),
+    ("37200", Status::Done, 37_200, "end done 37200\n"),
+    ("37199", Status::RunLimit, 37_199, "end limit 37199\n"),
+    ("20000", Status::RunLimit, 20_000, "end limit 20000\n"),
+];
 
-fn put_run(alloc: Global, log: &mut Expected, step: u32) -> Result<(), NoMemory> {
-    let n = FIRST_STEP.wrapping_add(step);
-    let (_, blocks) = kind_of(step);
-    put_entry(log, &format!(in alloc; "D {n} 0\n")?)?;
-    put_blocks(alloc, log, n, blocks)?;
-    put_entry(log, &format!(in alloc; "E {n}\n")?)
-}
-
-/// The log up to so many entries, without its last line, and how many it has.
-fn log_of(alloc: Global, limit: u32) -> Result<(String, u32), NoMemory> {
-    let mut log = Expected {
-        text: String::new(alloc),
-        entries: 0,
-        limit,
-    };
-    put(&mut log.text, "STEPNC-LOG 1\n")?;
-    for step in 0..STEPS {
-        put_run(alloc, &mut log, step)?;
-    }
-    Ok((log.text, log.entries))
-}
-
-/// Stops unless the replay up to a limit gives this status, and the log with this last line.
+/// Stops unless the replay up to the row's limit gives its status, and the log with its lines.
 fn expect_log(
     rt: &impl Abort,
     alloc: Global,
-    limit: u32,
-    status: Status,
-    ending: &str,
+    project: &str,
+    lines: &str,
+    row: &Row,
 ) -> Result<(), Fail> {
-    let text = project(alloc)?;
-    let word = format!(in alloc; "{limit}")?;
-    let (said, sink) = answered(alloc, &text, &["replay", "plate.stp", "-", "-", &word])?;
-    let (mut log, entries) = log_of(alloc, limit)?;
-    put(&mut log, &format!(in alloc; "end {ending} {entries}\n")?)?;
+    let (limit, status, count, last) = *row;
+    let (said, sink) = answered(alloc, project, &["replay", "plate.stp", "-", "-", limit])?;
+    let log = log_of(alloc, lines, count, last)?;
     assert_eq!(rt; said, status);
     assert!(rt; sink.bytes() == log.as_bytes(), "up to {limit} entries");
     Ok(())
@@ -267,13 +238,10 @@ fn expect_log(
 
 #[test]
 fn a_long_run_of_every_path_is_written_whole(rt: HostRuntime) -> Result<(), Fail> {
-    for (limit, status, ending) in [
-        (2_000_000, Status::Done, "done"),
-        (37_200, Status::Done, "done"),
-        (37_199, Status::RunLimit, "limit"),
-        (20_000, Status::RunLimit, "limit"),
-    ] {
-        expect_log(&rt, rt.alloc(), limit, status, ending)?;
+    let project = project(rt.alloc())?;
+    let lines = entries(rt.alloc())?;
+    for row in &ROWS {
+        expect_log(&rt, rt.alloc(), &project, &lines, row)?;
     }
     Ok(())
 }

@@ -1,9 +1,11 @@
-ghost use Rattle.std.specs.Prelude.{◌≡◌, ◌&&◌, true, IsTrue, nat_eq, if◌then◌else◌, Some, option_copied};
-ghost use Rattle.entity_types.specs.Fits.{all_fit, are_coordinates, field_fits, fields_fit, in_range, is_flag, is_zero_past, kind_fits};
+//! Definitions of workingsteps: what a project says of one, or the first fault of it. Instances are written as in a file.
+
+ghost use Rattle.std.specs.Prelude.{◌≡◌, nat_eq, if◌then◌else◌, Some, option_copied};
 ghost use Rattle.project_store.specs.Entities.{entity_at};
 
-use entity_types::{Class, Entity, Field, FieldList, Kind, UsedPosition, used};
-use nc_base::{NoMemory, Number, NumberList, Steps};
+use crate::entities::{entities, entity};
+use entity_types::Entity;
+use nc_base::{Number, Steps};
 use path_blocks::{Def, Shape};
 use project_store::Entities;
 use std::alloc::Global;
@@ -13,60 +15,32 @@ use std::sync::ledger::{Blank, Ledger};
 use std::test::Fail;
 use step_def::{DefFault, is_workingstep, resolve};
 
-/// What a table puts at a used position.
-#[derive(Clone, Copy)]
-enum Put {
-    Absent,
-    Present,
-    Ref(Number),
-    Value(i64),
-    Refs(&'static [Number]),
-    /// A point or a direction.
-    Values(i64, i64, i64),
-}
-
-/// An instance of a table.
-#[derive(Clone, Copy)]
-struct Instance {
-    number: Number,
-    class: Class,
-    fields: &'static [Put],
-}
+/// The numbers of a definition: the tool, then `spindle`, `feed`, `sec`, `ret`, `z0`, `bottom` and `axial`, and the shape. A table has
+/// them in this form, which keeps nothing that would have to be proved of each row.
+type Numbers = (u32, [i64; 7], Shape);
 
 /// A workingstep, an instance that is put in place of another, and what that makes of the step.
-type Row = (Number, Instance, Result<Def, DefFault>);
-
-macro_rules! instance {
-    ($number:literal $class:ident $($field:expr),*) => {
-        Instance { number: $number, class: Class::$class, fields: &[$($field),*] }
-    };
-}
+type Row = (Number, &'static str, Result<Numbers, DefFault>);
 
 macro_rules! row {
-    ($step:literal $number:literal $class:ident [$($field:expr),*] $answer:expr) => {
-        ($step, instance!($number $class $($field),*), $answer)
+    ($step:literal $line:literal $answer:expr) => {
+        ($step, $line, $answer)
     };
 }
 
 /// The drilled hole with these numbers: spindle speed, heights and dwell.
 macro_rules! drilled {
     ($spindle:expr, $sec:expr, $ret:expr, $z0:expr, $bottom:expr, $dwell:expr) => {
-        Def {
-            tool: 44,
-            spindle: $spindle,
-            feed: 40,
-            sec: $sec,
-            ret: $ret,
-            z0: $z0,
-            bottom: $bottom,
-            axial: $z0 - $bottom,
-            shape: Shape::Drill { x: 10_000, y: 20_000, dwell: $dwell },
-        }
+        (
+            44,
+            [$spindle, 40, $sec, $ret, $z0, $bottom, $z0 - $bottom],
+            Shape::Drill { x: 10_000, y: 20_000, dwell: $dwell },
+        )
     };
 }
 
 /// The drilled hole.
-const DRILLED: Def = drilled!(20_000, 30_000, 5_000, 0, -15_000, 0);
+const DRILLED: Numbers = drilled!(20_000, 30_000, 5_000, 0, -15_000, 0);
 
 mod faces;
 mod holes;
@@ -74,12 +48,12 @@ mod pockets;
 mod steps;
 
 /// All instances.
-const PROJECT: [&[Instance]; 5] = [
-    &steps::SHARED,
-    &holes::HOLE,
-    &faces::FACE,
-    &pockets::POCKET,
-    &pockets::CONTOUR,
+const PROJECT: [&str; 5] = [
+    steps::SHARED,
+    holes::HOLE,
+    faces::FACE,
+    pockets::POCKET,
+    pockets::CONTOUR,
 ];
 
 /// A project with one entity put in place of another.
@@ -106,198 +80,107 @@ fn find(project: &[Entity], n: Number) -> Option<&Entity>
     project.iter().find(|entity| n == entity.number)
 }
 
-/// The table's instance of this number is none of its class.
-#[derive(Debug, Drop)]
-struct Unfit(Number);
-
-fn in_range(x: i64) -> bool
-    ensures { result ≡ in_range x }
-{
-    x.unsigned_abs() <= 1_000_000_000_000_000
-}
-
-fn is_zero_past(count: u8, place: u8, x: i64) -> bool
-    ensures { result ≡ is_zero_past count place x }
-{
-    place <= count || x.unsigned_abs() == 0
-}
-
-fn are_in_range(x: i64, y: i64, z: i64) -> bool
-    ensures { result ≡ (in_range x && in_range y && in_range z) }
-{
-    in_range(x) && in_range(y) && in_range(z)
-}
-
-fn are_coordinates(count: u8, x: i64, y: i64, z: i64) -> bool
-    ensures { result ≡ are_coordinates count x y z }
-{
-    if !(1 <= count && count <= 3) {
-        return false;
+/// All instances of the project.
+fn project(rt: &impl Abort, alloc: Global) -> Result<Vec<Entity>, Fail> {
+    let mut text = String::new(alloc);
+    for part in PROJECT {
+        text.push_str(part)?;
     }
-    if !are_in_range(x, y, z) {
-        return false;
+    entities(rt, alloc, &text)
+}
+
+fn numbers(def: &Def) -> Numbers {
+    (
+        def.tool,
+        [
+            def.spindle,
+            def.feed,
+            def.sec,
+            def.ret,
+            def.z0,
+            def.bottom,
+            def.axial,
+        ],
+        def.shape,
+    )
+}
+
+/// What a project says of a step, or None where it is no workingstep.
+fn answer<L: Ledger>(
+    from: &Changed,
+    step: Number,
+    steps: &mut Steps<L>,
+) -> Option<Result<Numbers, DefFault>> {
+    if !is_workingstep(from, step) {
+        return None;
     }
-    is_zero_past(count, 2, y) && is_zero_past(count, 3, z)
-}
-
-fn is_flag(kind: Kind) -> bool
-    ensures { result ≡ is_flag kind }
-{
-    matches!(kind, Kind::Flag)
-}
-
-fn kind_fits(kind: Kind, field: &Field) -> bool
-    ensures { result ≡ kind_fits kind field.now }
-{
-    match field {
-        Field::Absent => false,
-        Field::Present => is_flag(kind),
-        Field::Ref(_) => matches!(kind, Kind::Reference | Kind::Length | Kind::Operand),
-        Field::Value(x) => {
-            matches!(kind, Kind::Numeral | Kind::Length | Kind::Operand) && in_range(*x)
-        }
-        Field::Refs(numbers) => match kind {
-            Kind::References => true,
-            Kind::SomeReferences => !numbers.is_empty(),
-            _ => false,
-        },
-        Field::Values { count, x, y, z } => {
-            matches!(kind, Kind::Coordinates) && are_coordinates(*count, *x, *y, *z)
-        }
-    }
-}
-
-fn field_fits(used: &UsedPosition, field: &Field) -> bool
-    ensures { result ≡ field_fits used.now field.now }
-{
-    match field {
-        Field::Absent => used.optional || is_flag(used.kind),
-        _ => kind_fits(used.kind, field),
-    }
-}
-
-fn all_fit(positions: &[UsedPosition], fields: &[Field]) -> bool
-    ensures { result ≡ true → IsTrue (all_fit positions.now fields.now) }
-{
-    let mut others = fields;
-    for position in positions {
-        let Some((field, rest)) = others.split_first() else {
-            return false;
-        };
-        if !field_fits(position, field) {
-            return false;
-        }
-        others = rest;
-    }
-    others.is_empty()
-}
-
-fn field(alloc: Global, put: Put) -> Result<Field, NoMemory> {
-    Ok(match put {
-        Put::Absent => Field::Absent,
-        Put::Present => Field::Present,
-        Put::Ref(number) => Field::Ref(number),
-        Put::Value(x) => Field::Value(x),
-        Put::Refs(numbers) => {
-            let mut list = NumberList::new(alloc);
-            for number in numbers {
-                list.push(*number)?;
-            }
-            Field::Refs(list)
-        }
-        Put::Values(x, y, z) => Field::Values { count: 3, x, y, z },
+    Some(match resolve(from, step, steps) {
+        Ok(def) => Ok(numbers(&def)),
+        Err(fault) => Err(fault),
     })
 }
 
-fn entity(alloc: Global, instance: &Instance) -> Result<Entity, Fail> {
-    let mut fields = FieldList::new(alloc);
-    for put in instance.fields {
-        fields.push(field(alloc, *put)?)?;
-    }
-    if !all_fit(used(instance.class), fields.as_slice()) {
-        return Err(Fail::from(Unfit(instance.number)));
-    }
-    Ok(Entity {
-        number: instance.number,
-        class: instance.class,
-        fields,
-    })
-}
-
-/// What each row makes of its workingstep in the project, or None where that is none.
-fn answers<L: Ledger>(
+/// Stops unless the row's number is a workingstep with the row's answer, or is none.
+fn expect_answer<L: Ledger>(
+    rt: &impl Abort,
     alloc: Global,
-    blank: Blank,
     project: &[Entity],
+    row: &Row,
+    is_step: bool,
+    steps: &mut Steps<L>,
+) -> Result<(), Fail> {
+    let (step, line, want) = *row;
+    let changed = Changed {
+        project,
+        entity: &entity(rt, alloc, line)?,
+    };
+    let want = if is_step { Some(want) } else { None };
+    assert_eq!(rt; answer(&changed, step, steps), want, "of {line}");
+    Ok(())
+}
+
+fn expect_answers<L: Ledger>(
+    rt: &impl Abort,
+    alloc: Global,
     rows: &[Row],
-) -> Result<Vec<Option<Result<Def, DefFault>>>, Fail>
+    are_steps: bool,
+    blank: Blank,
+) -> Result<(), Fail>
     requires name { blank.name ≡ L.name }
     requires parts { blank.parts ≡ L.parts }
     requires one { blank.parts ≡ 1 }
 {
     let (book, share) = blank.open::<L>();
     let mut steps = Steps::new(book, share);
-    let mut answers = Vec::new(alloc);
-    for (step, instance, _) in rows {
-        let changed = Changed {
-            project,
-            entity: &entity(alloc, instance)?,
-        };
-        answers.push(if is_workingstep(&changed, *step) {
-            Some(resolve(&changed, *step, &mut steps))
-        } else {
-            None
-        })?;
-    }
-    Ok(answers)
-}
-
-/// All instances of the project.
-fn project(alloc: Global) -> Result<Vec<Entity>, Fail> {
-    let mut project = Vec::new(alloc);
-    for instances in PROJECT {
-        for instance in instances {
-            project.push(entity(alloc, instance)?)?;
-        }
-    }
-    Ok(project)
-}
-
-fn expect_answer(
-    rt: &impl Abort,
-    index: usize,
-    answer: Option<Result<Def, DefFault>>,
-    want: Option<Result<Def, DefFault>>,
-) {
-    assert_eq!(rt; answer, want, "row {index}");
-}
-
-/// Stops unless each row's number is a workingstep with the row's answer, or none of them is a workingstep.
-fn expect_rows(rt: &impl Abort, alloc: Global, rows: &[Row], are_steps: bool) -> Result<(), Fail> {
-    let answers = answers::<Brand>(alloc, Blank::new(1), &project(alloc)?, rows)?;
-    assert_eq!(rt; answers.len(), rows.len());
-    for (index, (row, answer)) in rows.iter().zip(&answers).enumerate() {
-        let want = if are_steps { Some(row.2) } else { None };
-        expect_answer(rt, index, *answer, want);
+    let project = project(rt, alloc)?;
+    for row in rows {
+        expect_answer(rt, alloc, project.as_slice(), row, are_steps, &mut steps)?;
     }
     Ok(())
 }
 
+/// Stops unless each row's number is a workingstep with the row's answer, or none of them is a workingstep.
+fn expect_rows(rt: &impl Abort, alloc: Global, rows: &[Row], are_steps: bool) -> Result<(), Fail> {
+    expect_answers::<Brand>(rt, alloc, rows, are_steps, Blank::new(1))
+}
+
+/// Each fault, in the order of the codes, which begin with 1.
+const ALL_FAULTS: [DefFault; 9] = [
+    DefFault::Missing(1, 2),
+    DefFault::HasToolpath(1),
+    DefFault::BadDirection(1),
+    DefFault::Mismatch(1, 2),
+    DefFault::NotRectangle(1),
+    DefFault::NotPositive(1, 2),
+    DefFault::OutOfRange(1, 2),
+    DefFault::ToolTooBig(1),
+    DefFault::TooManyBlocks(1, 20_005),
+];
+
 #[test]
 fn codes(rt: HostRuntime) {
-    let faults = [
-        DefFault::Missing(1, 2),
-        DefFault::HasToolpath(1),
-        DefFault::BadDirection(1),
-        DefFault::Mismatch(1, 2),
-        DefFault::NotRectangle(1),
-        DefFault::NotPositive(1, 2),
-        DefFault::OutOfRange(1, 2),
-        DefFault::ToolTooBig(1),
-        DefFault::TooManyBlocks(1, 20_005),
-    ];
     let mut code = 1;
-    for fault in &faults {
+    for fault in &ALL_FAULTS {
         assert_eq!(rt; fault.code(), code);
         code += 1;
     }

@@ -4,6 +4,8 @@
 #[cfg(test)]
 mod definitions;
 #[cfg(test)]
+mod entities;
+#[cfg(test)]
 mod reading;
 #[cfg(test)]
 mod store;

@@ -1,11 +1,12 @@
 //! Projects read from bytes, slice by slice and as a whole.
 
+use nc_base::{NoMemory, Number, NumberList};
 use p21_lex::LexErr;
 use p21_parse::ReadErr;
 use project_read::{
     MAX_PROJECT_BYTES, Project, ProjectErr, ProjectReason, project_in, project_laws,
 };
-use std::alloc::Global;
+use std::alloc::{AllocError, Global};
 use std::process::Abort;
 use std::test::Fail;
 
@@ -27,7 +28,8 @@ const FRONT: &[u8] =
 
 const BACK: &[u8] = b"ENDSEC;\nEND-ISO-10303-21;\n";
 
-/// How many entities a text has, or why it has none. A text that is longer than any file counts as empty.
+/// How many entities a text has, or why it has none. A text that is longer than any file counts as empty. It promises nothing, so that
+/// its callers are proved without what reading promises.
 fn count_in(alloc: Global, text: &[u8]) -> Result<usize, ProjectErr> {
     if text.len() > MAX_PROJECT_BYTES {
         return Ok(0);
@@ -36,27 +38,25 @@ fn count_in(alloc: Global, text: &[u8]) -> Result<usize, ProjectErr> {
     Ok(project.store.len())
 }
 
-fn expect_count(rt: &impl Abort, alloc: Global, text: &[u8], want: usize) {
-    let count = count_in(alloc, text);
-    assert_eq!(rt; count, Ok(want));
+/// Why a text is to be refused.
+fn refused(refusal: ReadErr) -> Result<usize, ProjectErr> {
+    Err(ProjectErr::Refused(ProjectReason::Read(refusal)))
 }
 
-fn expect_refused(rt: &impl Abort, alloc: Global, text: &[u8], want: ReadErr) {
-    let count = count_in(alloc, text);
-    assert_eq!(rt; count, Err(ProjectErr::Refused(ProjectReason::Read(want))));
+fn expect_count(rt: &impl Abort, alloc: Global, text: &[u8], want: Result<usize, ProjectErr>) {
+    assert_eq!(rt; count_in(alloc, text), want, "of {} bytes", text.len());
 }
 
 /// A front, a gap of so many bytes with semicolons and line ends in it, and then these parts.
-fn spread(alloc: Global, gap: usize, parts: &[&[u8]]) -> Result<Vec<u8>, Fail> {
+fn spread(alloc: Global, gap: usize, parts: &[&[u8]]) -> Result<Vec<u8>, AllocError> {
     let mut text = Vec::from_slice(alloc, FRONT)?;
     text.extend_from_slice(b"/*")?;
     for i in 0..gap {
-        let byte = match i % 40 {
+        text.push(match i % 40 {
             38 => b';',
             39 => b'\n',
             _ => b'.',
-        };
-        text.push(byte)?;
+        })?;
     }
     text.extend_from_slice(b"*/")?;
     for part in parts {
@@ -78,19 +78,23 @@ const STRADDLING: &[&[u8]] = &[
 fn expect_straddling(rt: &impl Abort, alloc: Global, part: &[u8], want: usize) -> Result<(), Fail> {
     for gap in 65_340..65_500 {
         let text = spread(alloc, gap, &[part, BACK])?;
-        expect_count(rt, alloc, text.as_slice(), want);
+        expect_count(rt, alloc, text.as_slice(), Ok(want));
     }
     Ok(())
 }
 
 #[test]
 fn what_straddles_two_slices_is_read(rt: HostRuntime) -> Result<(), Fail> {
-    project_laws();
     for part in STRADDLING {
         let want = if part.is_empty() { 2 } else { 3 };
         expect_straddling(&rt, rt.alloc(), part, want)?;
     }
     Ok(())
+}
+
+#[test]
+fn laws_of_projects_can_be_cited() {
+    project_laws();
 }
 
 /// Why a file is refused for what stands behind its first slice.
@@ -110,43 +114,65 @@ fn refusal(late: Late, place: u32) -> ReadErr {
 }
 
 /// Parts behind the first slice, and why the file is refused for them: the refusal's place is so many bytes before the text's end.
+const LATE: [(&[&[u8]], Late, usize); 6] = [
+    (&[b"@", BACK], Late::BadByte, 1 + BACK.len()),
+    (&[b"#9=A();\n", BACK, b"@"], Late::BadByte, 1),
+    (&[b"#9=A(;\n", BACK], Late::Syntax, 2 + BACK.len()),
+    (&[b"END-ISO-10303-21;\n"], Late::Syntax, 18),
+    (&[b"ENDSEC;\n"], Late::Syntax, 0),
+    (&[b"#2=CHANNEL('0');\n", BACK], Late::Twice, 0),
+];
+
 fn expect_late(
     rt: &impl Abort,
     alloc: Global,
     parts: &[&[u8]],
-    want: Late,
+    late: Late,
     before_end: usize,
 ) -> Result<(), Fail> {
     let text = spread(alloc, 70_000, parts)?;
     let place = u32::try_from(text.len().saturating_sub(before_end)).unwrap_or(0);
-    expect_refused(rt, alloc, text.as_slice(), refusal(want, place));
+    expect_count(rt, alloc, text.as_slice(), refused(refusal(late, place)));
     Ok(())
 }
 
 #[test]
 fn faults_behind_a_slice_keep_their_places(rt: HostRuntime) -> Result<(), Fail> {
-    let alloc = rt.alloc();
-    expect_late(&rt, alloc, &[b"@", BACK], Late::BadByte, 1 + BACK.len())?;
-    expect_late(&rt, alloc, &[b"#9=A();\n", BACK, b"@"], Late::BadByte, 1)?;
-    expect_late(
-        &rt,
-        alloc,
-        &[b"#9=A(;\n", BACK],
-        Late::Syntax,
-        2 + BACK.len(),
-    )?;
-    expect_late(&rt, alloc, &[b"END-ISO-10303-21;\n"], Late::Syntax, 18)?;
-    expect_late(&rt, alloc, &[b"ENDSEC;\n"], Late::Syntax, 0)?;
-    expect_late(&rt, alloc, &[b"#2=CHANNEL('0');\n", BACK], Late::Twice, 0)
+    for (parts, late, before_end) in &LATE {
+        expect_late(&rt, rt.alloc(), *parts, *late, *before_end)?;
+    }
+    Ok(())
 }
 
-/// Points from number 3 on, as many, on one line.
-fn on_one_line(alloc: Global, count: u32) -> Result<Vec<u8>, Fail> {
+/// So many lines of a form, with a number in place of each `@` and the next in place of each `%`. Numbers go by a step.
+fn numbered(
+    alloc: Global,
+    form: &str,
+    first: u32,
+    step: u32,
+    count: u32,
+) -> Result<Vec<u8>, AllocError> {
+    let mut text = Vec::new(alloc);
+    let mut number = first;
+    for _ in 0..count {
+        let next = number.wrapping_add(step);
+        let line = with_numbers(alloc, form, number, next)?;
+        text.extend_from_slice(line.as_bytes())?;
+        number = next;
+    }
+    Ok(text)
+}
+
+fn with_numbers(alloc: Global, form: &str, number: u32, next: u32) -> Result<String, AllocError> {
+    let line = form.replace(alloc, "@", &number.to_string(alloc)?)?;
+    line.replace(alloc, "%", &next.to_string(alloc)?)
+}
+
+/// A file of these parts.
+fn file(alloc: Global, parts: &[&[u8]]) -> Result<Vec<u8>, AllocError> {
     let mut text = Vec::from_slice(alloc, FRONT)?;
-    for i in 0..count {
-        let number = i.wrapping_add(3);
-        let item = format!(in alloc; "#{number}=CARTESIAN_POINT('a;b',(1.,2.5,-3.));")?;
-        text.extend_from_slice(item.as_bytes())?;
+    for part in parts {
+        text.extend_from_slice(part)?;
     }
     text.extend_from_slice(BACK)?;
     Ok(text)
@@ -154,69 +180,40 @@ fn on_one_line(alloc: Global, count: u32) -> Result<Vec<u8>, Fail> {
 
 #[test]
 fn a_file_without_line_ends_is_read(rt: HostRuntime) -> Result<(), Fail> {
-    let text = on_one_line(rt.alloc(), 20_000)?;
-    expect_count(&rt, rt.alloc(), text.as_slice(), 20_002);
+    let points = numbered(
+        rt.alloc(),
+        "#@=CARTESIAN_POINT('a;b',(1.,2.5,-3.));",
+        3,
+        1,
+        20_000,
+    )?;
+    let text = file(rt.alloc(), &[&points])?;
+    expect_count(&rt, rt.alloc(), text.as_slice(), Ok(20_002));
     Ok(())
 }
 
-/// 199,900 planes whose numbers are apart by a power of two, each of which refers to the next and the last to #2; then a part.
-fn far_apart(alloc: Global, part: &[u8]) -> Result<Vec<u8>, Fail> {
-    let mut text = Vec::from_slice(alloc, FRONT)?;
-    for i in 0..199_900u32 {
-        let number = i.wrapping_mul(8_192).wrapping_add(3);
-        let next = if i == 199_899 {
-            2
-        } else {
-            number.wrapping_add(8_192)
-        };
-        let line = format!(in alloc; "#{number}=PLANE('',#{next});\n")?;
-        text.extend_from_slice(line.as_bytes())?;
-    }
-    text.extend_from_slice(part)?;
-    text.extend_from_slice(BACK)?;
-    Ok(text)
+/// 199,900 planes whose numbers are apart by a power of two, each of which refers to the next and the last to #2; then a part, and what
+/// the file is read to.
+const FAR_APART: [(&[u8], Result<usize, ProjectErr>); 2] = [
+    (b"", Ok(199_902)),
+    (
+        b"#8195=CHANNEL('0');\n",
+        Err(ProjectErr::Refused(ProjectReason::Read(ReadErr::Duplicate(8_195)))),
+    ),
+];
+
+fn far_apart<'a>(alloc: Global, planes: &'a [u8], part: &'a [u8]) -> Result<Vec<u8>, AllocError> {
+    file(alloc, &[planes, b"#1637572611=PLANE('',#2);\n", part])
 }
 
 #[test]
 fn numbers_far_apart_are_read(rt: HostRuntime) -> Result<(), Fail> {
-    let text = far_apart(rt.alloc(), b"")?;
-    expect_count(&rt, rt.alloc(), text.as_slice(), 199_902);
-    let text = far_apart(rt.alloc(), b"#8195=CHANNEL('0');\n")?;
-    expect_refused(&rt, rt.alloc(), text.as_slice(), ReadErr::Duplicate(8_195));
+    let planes = numbered(rt.alloc(), "#@=PLANE('',#%);\n", 3, 8_192, 199_899)?;
+    for (part, want) in FAR_APART {
+        let text = far_apart(rt.alloc(), &planes, part)?;
+        expect_count(&rt, rt.alloc(), text.as_slice(), want);
+    }
     Ok(())
-}
-
-/// 199,997 planes from number 3 on, each of which refers to the next, and a channel as the last.
-fn chain(alloc: Global) -> Result<Vec<u8>, Fail> {
-    let mut text = Vec::from_slice(alloc, FRONT)?;
-    for i in 0..199_997u32 {
-        let number = i.wrapping_add(3);
-        let next = i.wrapping_add(4);
-        let line = format!(in alloc; "#{number}=PLANE('',#{next});\n")?;
-        text.extend_from_slice(line.as_bytes())?;
-    }
-    text.extend_from_slice(b"#200000=CHANNEL('0');\n")?;
-    text.extend_from_slice(BACK)?;
-    Ok(text)
-}
-
-/// 199,997 points from number 4 on, and a line through all of them.
-fn star(alloc: Global) -> Result<Vec<u8>, Fail> {
-    let mut text = Vec::from_slice(alloc, FRONT)?;
-    text.extend_from_slice(b"#3=POLYLINE('',(#4")?;
-    for i in 1..199_997u32 {
-        let number = i.wrapping_add(4);
-        let item = format!(in alloc; ",#{number}")?;
-        text.extend_from_slice(item.as_bytes())?;
-    }
-    text.extend_from_slice(b"));\n")?;
-    for i in 0..199_997u32 {
-        let number = i.wrapping_add(4);
-        let line = format!(in alloc; "#{number}=CARTESIAN_POINT('',(0.));\n")?;
-        text.extend_from_slice(line.as_bytes())?;
-    }
-    text.extend_from_slice(BACK)?;
-    Ok(text)
 }
 
 /// The project in a text, which is no longer than a file may be.
@@ -225,45 +222,76 @@ fn project(rt: &impl Abort, alloc: Global, text: &[u8]) -> Result<Project, Fail>
     Ok(project_in(alloc, text)?)
 }
 
-/// How many entities an entity of a project uses, itself among them.
-fn expect_reached(
+/// What an entity of a project uses, itself among them.
+fn reached(project: &Project, alloc: Global, n: u32) -> Result<NumberList, NoMemory> {
+    project.store.closure(alloc, n)
+}
+
+fn reached_count(project: &Project, alloc: Global, n: u32) -> Result<u32, NoMemory> {
+    Ok(reached(project, alloc, n)?.len())
+}
+
+fn expect_counts(
     rt: &impl Abort,
     alloc: Global,
     project: &Project,
-    n: u32,
-    want: u32,
+    counts: &[(u32, u32)],
 ) -> Result<(), Fail> {
-    let reached = project.store.closure(alloc, n)?;
-    assert_eq!(rt; reached.len(), want);
+    for (n, count) in counts {
+        assert_eq!(rt; reached_count(project, alloc, *n)?, *count);
+    }
     Ok(())
 }
 
-#[test]
-fn what_a_chain_uses_is_found(rt: HostRuntime) -> Result<(), Fail> {
-    let text = chain(rt.alloc())?;
-    let chained = project(&rt, rt.alloc(), text.as_slice())?;
-    assert_eq!(&rt; chained.store.len(), 200_000);
-    expect_reached(&rt, rt.alloc(), &chained, 3, 199_998)?;
-    expect_reached(&rt, rt.alloc(), &chained, 200_000, 1)
+/// Stops unless a file of these parts has 200,000 entities, and these entities use so many.
+fn expect_reached(
+    rt: &impl Abort,
+    alloc: Global,
+    parts: &[&[u8]],
+    counts: &[(u32, u32)],
+) -> Result<(), Fail> {
+    let text = file(alloc, parts)?;
+    let project = project(rt, alloc, text.as_slice())?;
+    assert_eq!(rt; project.store.len(), 200_000);
+    expect_counts(rt, alloc, &project, counts)
 }
 
+/// 199,997 planes from number 3 on, each of which refers to the next, and a channel as the last.
+#[test]
+fn what_a_chain_uses_is_found(rt: HostRuntime) -> Result<(), Fail> {
+    let planes = numbered(rt.alloc(), "#@=PLANE('',#%);\n", 3, 1, 199_997)?;
+    expect_reached(
+        &rt,
+        rt.alloc(),
+        &[&planes, b"#200000=CHANNEL('0');\n"],
+        &[(3, 199_998), (200_000, 1)],
+    )
+}
+
+/// 199,997 points from number 4 on, and a line through all of them.
 #[test]
 fn what_a_star_uses_is_found(rt: HostRuntime) -> Result<(), Fail> {
-    let text = star(rt.alloc())?;
-    let starred = project(&rt, rt.alloc(), text.as_slice())?;
-    assert_eq!(&rt; starred.store.len(), 200_000);
-    expect_reached(&rt, rt.alloc(), &starred, 3, 199_998)
+    let others = numbered(rt.alloc(), ",#@", 5, 1, 199_996)?;
+    let points = numbered(rt.alloc(), "#@=CARTESIAN_POINT('',(0.));\n", 4, 1, 199_997)?;
+    expect_reached(
+        &rt,
+        rt.alloc(),
+        &[b"#3=POLYLINE('',(#4", &others, b"));\n", &points],
+        &[(3, 199_998)],
+    )
+}
+
+/// The main workplan of a project, and how many workingsteps and entities it has.
+fn sizes(project: &Project) -> (u32, usize, usize) {
+    (project.main, project.steps.len(), project.store.len())
 }
 
 #[test]
 fn a_drilled_hole_is_read(rt: HostRuntime) -> Result<(), Fail> {
     let project = project(&rt, rt.alloc(), HOLE)?;
-    assert_eq!(&rt; project.main, 2);
-    assert_eq!(&rt; project.steps.len(), 1);
-    assert_eq!(&rt; project.store.len(), 17);
-    let reached = project.store.closure(rt.alloc(), 10)?;
+    assert_eq!(&rt; sizes(&project), (2, 1, 17));
     assert_eq!(&rt;
-        reached.as_slice(),
+        reached(&project, rt.alloc(), 10)?.as_slice(),
         [10, 20, 30, 44, 45, 46, 47, 50, 51, 60, 61, 62, 70, 71, 72].as_slice()
     );
     Ok(())
@@ -271,7 +299,7 @@ fn a_drilled_hole_is_read(rt: HostRuntime) -> Result<(), Fail> {
 
 #[test]
 fn an_empty_file_is_refused(rt: HostRuntime) {
-    expect_refused(&rt, rt.alloc(), b"", ReadErr::Syntax(0));
+    expect_count(&rt, rt.alloc(), b"", refused(ReadErr::Syntax(0)));
 }
 
 /// The number of the workingstep for whose definition a text is refused.
@@ -290,13 +318,15 @@ fn the_least_faulty_step_is_told(rt: HostRuntime) {
     assert_eq!(&rt; faulty_in(rt.alloc(), STEPS), Some(11));
 }
 
+/// The numbers of a project's workingsteps, in their order.
+fn step_numbers(alloc: Global, project: &Project) -> Result<Vec<Number>, AllocError> {
+    project.steps.iter().map(|step| step.number).collect(alloc)
+}
+
 #[test]
 fn steps_stand_in_the_order_of_the_plan(rt: HostRuntime) -> Result<(), Fail> {
     let project = project(&rt, rt.alloc(), RIGHT_STEPS)?;
-    let mut numbers = Vec::new(rt.alloc());
-    for step in &project.steps {
-        numbers.push(step.number)?;
-    }
+    let numbers = step_numbers(rt.alloc(), &project)?;
     assert_eq!(&rt; numbers.as_slice(), [12, 10, 11].as_slice());
     Ok(())
 }

@@ -2,560 +2,271 @@
 
 use crate::expect::expect;
 use entity_read::{TypeErr, typed};
-use nc_base::{NcText, NoMemory};
-use p21_parse::{Instance, Param, ParamList, Part, PartList};
+use p21_lex::{MAX_TEXT, tokens};
+use p21_parse::{Instance, InstanceList, PartList, ReadErr, instances};
 use std::alloc::Global;
+use std::process::Abort;
 use std::test::Fail;
 
-// A class: its keyword, its number, and its used positions. A kind is r (reference), l (list), m (list of at least one),
-// n (number), e (length), v (value), p (numbers) or f (flag); a capital says that `$` may stand there too.
+/// A line for each keyword: the number of its class, the keyword, and its used positions, each with its kind. A kind is r (reference),
+/// l (list), m (list of at least one), n (number), e (length), v (value), p (numbers) or f (flag); a capital says that `$` may stand there too.
+const TABLE: &str = "1 PROJECT 2:r\n\
+    2 WORKPLAN 2:l 3:R\n\
+    3 PARALLEL 2:m\n\
+    4 NON_SEQUENTIAL 2:m\n\
+    5 SELECTIVE 2:m\n\
+    6 IF_STATEMENT 2:r 3:r 4:R\n\
+    7 WHILE_STATEMENT 2:r 3:r\n\
+    8 ASSIGNMENT 2:r 3:v\n\
+    9 SET_MARK\n\
+    10 WAIT_FOR_MARK 2:r\n\
+    11 MACHINING_WORKINGSTEP 2:R 3:r 4:r\n\
+    12 DISPLAY_MESSAGE\n\
+    12 OPTIONAL_STOP\n\
+    12 PROGRAM_STOP\n\
+    12 LOAD_TOOL\n\
+    12 UNLOAD_TOOL\n\
+    12 INDEX_TABLE\n\
+    12 INDEX_PALLET\n\
+    12 EXCHANGE_PALLET\n\
+    13 CHANNEL\n\
+    14 NC_VARIABLE 2:N\n\
+    15 NC_CONSTANT 2:n\n\
+    16 COMPARISON_EQUAL 1:v 2:v\n\
+    17 COMPARISON_NOT_EQUAL 1:v 2:v\n\
+    18 COMPARISON_GREATER 1:v 2:v\n\
+    19 COMPARISON_GREATER_EQUAL 1:v 2:v\n\
+    20 COMPARISON_LESS 1:v 2:v\n\
+    21 COMPARISON_LESS_EQUAL 1:v 2:v\n\
+    22 AND_EXPRESSION 1:l\n\
+    23 OR_EXPRESSION 1:l\n\
+    24 XOR_EXPRESSION 1:r 2:r\n\
+    25 NOT_EXPRESSION 1:r\n\
+    26 !NC_SUM 1:v 2:v\n\
+    27 !NC_DIFFERENCE 1:v 2:v\n\
+    28 !NC_PRODUCT 1:v 2:v\n\
+    29 ROUND_HOLE 4:R 5:R 6:E\n\
+    30 PLANAR_FACE 4:R 5:R 6:R 7:R\n\
+    31 CLOSED_POCKET 4:R 5:R 11:R\n\
+    32 LINEAR_PATH 2:E 3:R\n\
+    33 LINEAR_PROFILE 2:E\n\
+    34 RECTANGULAR_CLOSED_PROFILE 2:E 3:E\n\
+    35 GENERAL_CLOSED_PROFILE 2:R\n\
+    36 POLYLINE 2:l\n\
+    37 PLANE 2:R\n\
+    38 AXIS2_PLACEMENT_3D 2:R 3:R 4:R\n\
+    39 CARTESIAN_POINT 2:p\n\
+    40 DIRECTION 2:p\n\
+    41 DRILLING 1:f 4:E 6:R 7:R 12:N\n\
+    42 CENTER_DRILLING 1:f 4:E 6:R 7:R 12:N\n\
+    43 REAMING 1:f 4:E 6:R 7:R 12:N\n\
+    44 BORING 1:f 4:E 6:R 7:R 12:N\n\
+    45 PLANE_ROUGH_MILLING 1:f 4:E 6:R 7:R 12:R 13:E 14:E\n\
+    46 PLANE_FINISH_MILLING 1:f 4:E 6:R 7:R 12:R 13:E 14:E\n\
+    47 BOTTOM_AND_SIDE_ROUGH_MILLING 1:f 4:E 6:R 7:R 13:E 14:E 15:E 16:E\n\
+    48 BOTTOM_AND_SIDE_FINISH_MILLING 1:f 4:E 6:R 7:R 13:E 14:E 15:E 16:E\n\
+    49 BIDIRECTIONAL 1:N\n\
+    50 UNIDIRECTIONAL 1:N\n\
+    51 MILLING_TECHNOLOGY 1:N 4:N\n\
+    52 MILLING_CUTTING_TOOL 2:R\n\
+    53 ENDMILL 1:R\n\
+    54 TAPERED_ENDMILL 1:R\n\
+    55 BALL_ENDMILL 1:R\n\
+    56 FACEMILL 1:R\n\
+    57 TWIST_DRILL 1:R\n\
+    58 MILLING_TOOL_DIMENSION 1:E\n\
+    59 TOLERANCED_LENGTH_MEASURE 1:n\n\
+    60 NUMERIC_PARAMETER 2:n\n";
+
+/// A line of the table.
 #[derive(Clone, Copy)]
-struct Row {
-    keyword: &'static [u8],
+struct Class {
     code: u8,
-    positions: &'static [(u8, u8)],
+    keyword: &'static str,
+    positions: &'static str,
 }
 
-static ROWS: [Row; 67] = [
-    Row {
-        keyword: b"PROJECT",
-        code: 1,
-        positions: &[(2, b'r')],
-    },
-    Row {
-        keyword: b"WORKPLAN",
-        code: 2,
-        positions: &[(2, b'l'), (3, b'R')],
-    },
-    Row {
-        keyword: b"PARALLEL",
-        code: 3,
-        positions: &[(2, b'm')],
-    },
-    Row {
-        keyword: b"NON_SEQUENTIAL",
-        code: 4,
-        positions: &[(2, b'm')],
-    },
-    Row {
-        keyword: b"SELECTIVE",
-        code: 5,
-        positions: &[(2, b'm')],
-    },
-    Row {
-        keyword: b"IF_STATEMENT",
-        code: 6,
-        positions: &[(2, b'r'), (3, b'r'), (4, b'R')],
-    },
-    Row {
-        keyword: b"WHILE_STATEMENT",
-        code: 7,
-        positions: &[(2, b'r'), (3, b'r')],
-    },
-    Row {
-        keyword: b"ASSIGNMENT",
-        code: 8,
-        positions: &[(2, b'r'), (3, b'v')],
-    },
-    Row {
-        keyword: b"SET_MARK",
-        code: 9,
-        positions: &[],
-    },
-    Row {
-        keyword: b"WAIT_FOR_MARK",
-        code: 10,
-        positions: &[(2, b'r')],
-    },
-    Row {
-        keyword: b"MACHINING_WORKINGSTEP",
-        code: 11,
-        positions: &[(2, b'R'), (3, b'r'), (4, b'r')],
-    },
-    Row {
-        keyword: b"DISPLAY_MESSAGE",
-        code: 12,
-        positions: &[],
-    },
-    Row {
-        keyword: b"OPTIONAL_STOP",
-        code: 12,
-        positions: &[],
-    },
-    Row {
-        keyword: b"PROGRAM_STOP",
-        code: 12,
-        positions: &[],
-    },
-    Row {
-        keyword: b"LOAD_TOOL",
-        code: 12,
-        positions: &[],
-    },
-    Row {
-        keyword: b"UNLOAD_TOOL",
-        code: 12,
-        positions: &[],
-    },
-    Row {
-        keyword: b"INDEX_TABLE",
-        code: 12,
-        positions: &[],
-    },
-    Row {
-        keyword: b"INDEX_PALLET",
-        code: 12,
-        positions: &[],
-    },
-    Row {
-        keyword: b"EXCHANGE_PALLET",
-        code: 12,
-        positions: &[],
-    },
-    Row {
-        keyword: b"CHANNEL",
-        code: 13,
-        positions: &[],
-    },
-    Row {
-        keyword: b"NC_VARIABLE",
-        code: 14,
-        positions: &[(2, b'N')],
-    },
-    Row {
-        keyword: b"NC_CONSTANT",
-        code: 15,
-        positions: &[(2, b'n')],
-    },
-    Row {
-        keyword: b"COMPARISON_EQUAL",
-        code: 16,
-        positions: &[(1, b'v'), (2, b'v')],
-    },
-    Row {
-        keyword: b"COMPARISON_NOT_EQUAL",
-        code: 17,
-        positions: &[(1, b'v'), (2, b'v')],
-    },
-    Row {
-        keyword: b"COMPARISON_GREATER",
-        code: 18,
-        positions: &[(1, b'v'), (2, b'v')],
-    },
-    Row {
-        keyword: b"COMPARISON_GREATER_EQUAL",
-        code: 19,
-        positions: &[(1, b'v'), (2, b'v')],
-    },
-    Row {
-        keyword: b"COMPARISON_LESS",
-        code: 20,
-        positions: &[(1, b'v'), (2, b'v')],
-    },
-    Row {
-        keyword: b"COMPARISON_LESS_EQUAL",
-        code: 21,
-        positions: &[(1, b'v'), (2, b'v')],
-    },
-    Row {
-        keyword: b"AND_EXPRESSION",
-        code: 22,
-        positions: &[(1, b'l')],
-    },
-    Row {
-        keyword: b"OR_EXPRESSION",
-        code: 23,
-        positions: &[(1, b'l')],
-    },
-    Row {
-        keyword: b"XOR_EXPRESSION",
-        code: 24,
-        positions: &[(1, b'r'), (2, b'r')],
-    },
-    Row {
-        keyword: b"NOT_EXPRESSION",
-        code: 25,
-        positions: &[(1, b'r')],
-    },
-    Row {
-        keyword: b"!NC_SUM",
-        code: 26,
-        positions: &[(1, b'v'), (2, b'v')],
-    },
-    Row {
-        keyword: b"!NC_DIFFERENCE",
-        code: 27,
-        positions: &[(1, b'v'), (2, b'v')],
-    },
-    Row {
-        keyword: b"!NC_PRODUCT",
-        code: 28,
-        positions: &[(1, b'v'), (2, b'v')],
-    },
-    Row {
-        keyword: b"ROUND_HOLE",
-        code: 29,
-        positions: &[(4, b'R'), (5, b'R'), (6, b'E')],
-    },
-    Row {
-        keyword: b"PLANAR_FACE",
-        code: 30,
-        positions: &[(4, b'R'), (5, b'R'), (6, b'R'), (7, b'R')],
-    },
-    Row {
-        keyword: b"CLOSED_POCKET",
-        code: 31,
-        positions: &[(4, b'R'), (5, b'R'), (11, b'R')],
-    },
-    Row {
-        keyword: b"LINEAR_PATH",
-        code: 32,
-        positions: &[(2, b'E'), (3, b'R')],
-    },
-    Row {
-        keyword: b"LINEAR_PROFILE",
-        code: 33,
-        positions: &[(2, b'E')],
-    },
-    Row {
-        keyword: b"RECTANGULAR_CLOSED_PROFILE",
-        code: 34,
-        positions: &[(2, b'E'), (3, b'E')],
-    },
-    Row {
-        keyword: b"GENERAL_CLOSED_PROFILE",
-        code: 35,
-        positions: &[(2, b'R')],
-    },
-    Row {
-        keyword: b"POLYLINE",
-        code: 36,
-        positions: &[(2, b'l')],
-    },
-    Row {
-        keyword: b"PLANE",
-        code: 37,
-        positions: &[(2, b'R')],
-    },
-    Row {
-        keyword: b"AXIS2_PLACEMENT_3D",
-        code: 38,
-        positions: &[(2, b'R'), (3, b'R'), (4, b'R')],
-    },
-    Row {
-        keyword: b"CARTESIAN_POINT",
-        code: 39,
-        positions: &[(2, b'p')],
-    },
-    Row {
-        keyword: b"DIRECTION",
-        code: 40,
-        positions: &[(2, b'p')],
-    },
-    Row {
-        keyword: b"DRILLING",
-        code: 41,
-        positions: &[(1, b'f'), (4, b'E'), (6, b'R'), (7, b'R'), (12, b'N')],
-    },
-    Row {
-        keyword: b"CENTER_DRILLING",
-        code: 42,
-        positions: &[(1, b'f'), (4, b'E'), (6, b'R'), (7, b'R'), (12, b'N')],
-    },
-    Row {
-        keyword: b"REAMING",
-        code: 43,
-        positions: &[(1, b'f'), (4, b'E'), (6, b'R'), (7, b'R'), (12, b'N')],
-    },
-    Row {
-        keyword: b"BORING",
-        code: 44,
-        positions: &[(1, b'f'), (4, b'E'), (6, b'R'), (7, b'R'), (12, b'N')],
-    },
-    Row {
-        keyword: b"PLANE_ROUGH_MILLING",
-        code: 45,
-        positions: &[
-            (1, b'f'),
-            (4, b'E'),
-            (6, b'R'),
-            (7, b'R'),
-            (12, b'R'),
-            (13, b'E'),
-            (14, b'E'),
-        ],
-    },
-    Row {
-        keyword: b"PLANE_FINISH_MILLING",
-        code: 46,
-        positions: &[
-            (1, b'f'),
-            (4, b'E'),
-            (6, b'R'),
-            (7, b'R'),
-            (12, b'R'),
-            (13, b'E'),
-            (14, b'E'),
-        ],
-    },
-    Row {
-        keyword: b"BOTTOM_AND_SIDE_ROUGH_MILLING",
-        code: 47,
-        positions: &[
-            (1, b'f'),
-            (4, b'E'),
-            (6, b'R'),
-            (7, b'R'),
-            (13, b'E'),
-            (14, b'E'),
-            (15, b'E'),
-            (16, b'E'),
-        ],
-    },
-    Row {
-        keyword: b"BOTTOM_AND_SIDE_FINISH_MILLING",
-        code: 48,
-        positions: &[
-            (1, b'f'),
-            (4, b'E'),
-            (6, b'R'),
-            (7, b'R'),
-            (13, b'E'),
-            (14, b'E'),
-            (15, b'E'),
-            (16, b'E'),
-        ],
-    },
-    Row {
-        keyword: b"BIDIRECTIONAL",
-        code: 49,
-        positions: &[(1, b'N')],
-    },
-    Row {
-        keyword: b"UNIDIRECTIONAL",
-        code: 50,
-        positions: &[(1, b'N')],
-    },
-    Row {
-        keyword: b"MILLING_TECHNOLOGY",
-        code: 51,
-        positions: &[(1, b'N'), (4, b'N')],
-    },
-    Row {
-        keyword: b"MILLING_CUTTING_TOOL",
-        code: 52,
-        positions: &[(2, b'R')],
-    },
-    Row {
-        keyword: b"ENDMILL",
-        code: 53,
-        positions: &[(1, b'R')],
-    },
-    Row {
-        keyword: b"TAPERED_ENDMILL",
-        code: 54,
-        positions: &[(1, b'R')],
-    },
-    Row {
-        keyword: b"BALL_ENDMILL",
-        code: 55,
-        positions: &[(1, b'R')],
-    },
-    Row {
-        keyword: b"FACEMILL",
-        code: 56,
-        positions: &[(1, b'R')],
-    },
-    Row {
-        keyword: b"TWIST_DRILL",
-        code: 57,
-        positions: &[(1, b'R')],
-    },
-    Row {
-        keyword: b"MILLING_TOOL_DIMENSION",
-        code: 58,
-        positions: &[(1, b'E')],
-    },
-    Row {
-        keyword: b"TOLERANCED_LENGTH_MEASURE",
-        code: 59,
-        positions: &[(1, b'n')],
-    },
-    Row {
-        keyword: b"NUMERIC_PARAMETER",
-        code: 60,
-        positions: &[(2, b'n')],
-    },
-];
-
-fn text(alloc: Global, bytes: &[u8]) -> Result<NcText, NoMemory> {
-    NcText::of(alloc, bytes)
-}
-
-fn list(alloc: Global, items: &[u8]) -> Result<Param, NoMemory> {
-    let mut params = ParamList::new(alloc);
-    for item in items {
-        params.push(param(alloc, *item)?)?;
-    }
-    Ok(Param::List(params))
-}
-
-// One parameter: a reference, a number, a typed number, a text, `$` or `*`.
-fn param(alloc: Global, form: u8) -> Result<Param, NoMemory> {
-    Ok(match form {
-        b'#' => Param::Reference(7),
-        b'1' => Param::Int(text(alloc, b"12")?),
-        b'.' => Param::Real(text(alloc, b"-1.5")?),
-        b'!' => Param::Real(text(alloc, b"1.E13")?),
-        b't' => {
-            let mut params = ParamList::new(alloc);
-            params.push(Param::Real(text(alloc, b"1.5")?))?;
-            Param::Typed(text(alloc, b"LENGTH_MEASURE")?, params)
-        }
-        b'$' => Param::Unset,
-        b'*' => Param::Derived,
-        _ => Param::Text(text(alloc, b"x")?),
+fn class_in(line: &'static str) -> Result<Class, Fail> {
+    let (code, rest) = line.split_once(' ').ok_or("a number alone")?;
+    let (keyword, positions) = rest.split_once(' ').unwrap_or((rest, ""));
+    Ok(Class {
+        code: number(code),
+        keyword,
+        positions,
     })
 }
 
-// A parameter by its form: one, or a list of them behind `(`.
-fn form(alloc: Global, form: &[u8]) -> Result<Param, NoMemory> {
-    match form {
-        [b'(', items @ ..] => list(alloc, items),
-        [first, ..] => param(alloc, *first),
-        [] => Ok(Param::Unset),
-    }
-}
-
-fn fitting(kind: u8) -> &'static [&'static [u8]] {
+/// Parameters that fit a kind, and others that don't, with blanks between them.
+fn forms(kind: &str) -> (&'static str, &'static str) {
     match kind {
-        b'r' | b'R' => &[b"#"],
-        b'l' => &[b"(##", b"("],
-        b'm' => &[b"(##", b"(#"],
-        b'n' | b'N' => &[b"1", b".", b"t"],
-        b'e' | b'E' | b'v' => &[b"1", b".", b"t", b"#"],
-        b'p' => &[b"(1", b"(1.", b"(1.t"],
-        _ => &[b"$", b"*", b"#", b"(1"],
+        "r" | "R" => ("#7", "12 * (#7) 'x'"),
+        "l" => ("(#7,#7) ()", "#7 (#7,12) *"),
+        "m" => ("(#7,#7) (#7)", "#7 () (12)"),
+        "n" | "N" => ("12 -1.5 LENGTH_MEASURE(1.5)", "#7 1.E13 'x' *"),
+        "e" | "E" | "v" => ("12 -1.5 LENGTH_MEASURE(1.5) #7", "(#7) 1.E13 *"),
+        "p" => (
+            "(12) (12,-1.5) (12,-1.5,LENGTH_MEASURE(1.5))",
+            "() (12,12,12,12) (#7) 12",
+        ),
+        _ => ("$ * #7 (12)", ""),
     }
 }
 
-fn unfitting(kind: u8) -> &'static [&'static [u8]] {
-    match kind {
-        b'r' | b'R' => &[b"1", b"*", b"(#", b"x"],
-        b'l' => &[b"#", b"(#1", b"*"],
-        b'm' => &[b"#", b"(", b"(1"],
-        b'n' | b'N' => &[b"#", b"!", b"x", b"*"],
-        b'e' | b'E' | b'v' => &[b"(#", b"!", b"*"],
-        b'p' => &[b"(", b"(1111", b"(#", b"1"],
-        _ => &[],
+/// Whether `$` may stand where this kind is.
+fn may_be_unset(kind: &str) -> bool {
+    kind == "f" || kind.bytes().all(|byte| byte.is_ascii_uppercase())
+}
+
+/// The number that decimal digits are. The table's are below 256.
+fn number(digits: &str) -> u8 {
+    let mut value: u8 = 0;
+    for digit in digits.bytes() {
+        value = value
+            .wrapping_mul(10)
+            .wrapping_add(digit.wrapping_sub(b'0'));
+    }
+    value
+}
+
+/// A used position with its kind.
+fn position(word: &str) -> Result<(u8, &str), Fail> {
+    let (position, kind) = word.split_once(':').ok_or("a position without a kind")?;
+    Ok((number(position), kind))
+}
+
+/// The first of some forms.
+fn first(forms: &'static str) -> &'static str {
+    match forms.split_once(' ') {
+        Some((first, _)) => first,
+        None => forms,
     }
 }
 
-fn part(alloc: Global, row: &Row, at: u8, other: &[u8]) -> Result<Part, NoMemory> {
-    let mut parameters = ParamList::new(alloc);
+/// Parameters that fit these positions, each with a comma before it, but for another at one position.
+fn parameters(alloc: Global, positions: &str, at: u8, other: &str) -> Result<String, Fail> {
+    let mut text = String::new(alloc);
     let mut next = 1;
-    for (position, kind) in row.positions {
-        for _ in next..*position {
-            parameters.push(param(alloc, b'x')?)?;
+    for word in positions.split_whitespace() {
+        let (position, kind) = position(word)?;
+        for _ in next..position {
+            text.push_str(",'x'")?;
         }
-        let fits: &[u8] = match fitting(*kind) {
-            [first, ..] => first,
-            [] => b"$",
-        };
-        parameters.push(form(alloc, if *position == at { other } else { fits })?)?;
+        text.push_str(",")?;
+        text.push_str(if position == at {
+            other
+        } else {
+            first(forms(kind).0)
+        })?;
         next = position.saturating_add(1);
     }
-    Ok(Part {
-        keyword: text(alloc, row.keyword)?,
-        parameters,
-    })
+    Ok(text)
 }
 
-fn instance(alloc: Global, row: &Row, at: u8, other: &[u8]) -> Result<Instance, NoMemory> {
-    let mut parts = PartList::new(alloc);
-    parts.push(part(alloc, row, at, other)?)?;
-    Ok(Instance {
-        number: 70,
-        complex: false,
-        parts,
-    })
+/// An instance of this class as a file has it, with another parameter at one position.
+fn text_of(alloc: Global, class: &Class, at: u8, other: &str) -> Result<String, Fail> {
+    let parameters = parameters(alloc, class.positions, at, other)?;
+    let listed = parameters.as_str().strip_prefix(',').unwrap_or("");
+    let keyword = class.keyword;
+    Ok(format!(in alloc; "#70={keyword}({listed});")?)
 }
 
-// The number of an instance's class, or why it has none. It says nothing, so that tests go on without what `typed` promises.
+/// The instances of a text that has nothing else. It promises nothing, so that its callers are proved without what reading promises.
+fn listed(rt: &impl Abort, alloc: Global, text: &[u8]) -> Result<InstanceList, ReadErr> {
+    assert!(rt; text.len() <= MAX_TEXT as usize);
+    let tokens = tokens(alloc, text)?;
+    let (items, next) = instances(alloc, text, tokens.as_slice(), 0, 1)?;
+    assert!(rt; next as usize == tokens.len(), "more than instances");
+    Ok(items)
+}
+
+fn instance(rt: &impl Abort, alloc: Global, text: &str) -> Result<Instance, Fail> {
+    Ok(
+        listed(rt, alloc, text.as_bytes())?
+            .pop()
+            .ok_or("no instance")?,
+    )
+}
+
+/// The number of an instance's class, or why it has none. It promises nothing, so that tests go on without what `typed` promises.
 fn code(alloc: Global, instance: &Instance) -> Result<u8, TypeErr> {
     Ok(typed(alloc, instance)?.class.code())
 }
 
-fn code_of(alloc: Global, row: &Row, at: u8, other: &[u8]) -> Result<u8, TypeErr> {
-    code(alloc, &instance(alloc, row, at, other)?)
+fn expect_code(
+    rt: &impl Abort,
+    alloc: Global,
+    text: &str,
+    want: Result<u8, TypeErr>,
+) -> Result<(), Fail> {
+    let instance = instance(rt, alloc, text)?;
+    assert_eq!(rt; code(alloc, &instance), want, "of {text}");
+    Ok(())
+}
+
+/// Stops unless each of these parameters gives this answer, at one position of an instance of the class.
+fn expect_forms(
+    rt: &impl Abort,
+    alloc: Global,
+    class: &Class,
+    at: u8,
+    forms: &str,
+    want: Result<u8, TypeErr>,
+) -> Result<(), Fail> {
+    for form in forms.split_whitespace() {
+        let text = text_of(alloc, class, at, form)?;
+        expect_code(rt, alloc, &text, want)?;
+    }
+    Ok(())
+}
+
+fn expect_position(rt: &impl Abort, alloc: Global, class: &Class, word: &str) -> Result<(), Fail> {
+    let (at, kind) = position(word)?;
+    let (fitting, others) = forms(kind);
+    let good = Ok(class.code);
+    let bad = Err(TypeErr::BadAttribute(70, u32::from(at)));
+    expect_forms(rt, alloc, class, at, fitting, good)?;
+    expect_forms(rt, alloc, class, at, others, bad)?;
+    let unset = if may_be_unset(kind) { good } else { bad };
+    expect_forms(rt, alloc, class, at, "$", unset)
 }
 
 #[test]
 fn each_class_and_position(rt: HostRuntime) -> Result<(), Fail> {
-    let alloc = rt.alloc();
-    for row in &ROWS {
-        assert_eq!(rt; code_of(alloc, row, 0, b"$"), Ok(row.code));
-        for (position, kind) in row.positions {
-            let bad = Err(TypeErr::BadAttribute(70, u32::from(*position)));
-            for other in fitting(*kind) {
-                assert_eq!(rt; code_of(alloc, row, *position, other), Ok(row.code));
-            }
-            for other in unfitting(*kind) {
-                assert_eq!(rt; code_of(alloc, row, *position, other), bad);
-            }
-            let may = kind.is_ascii_uppercase() || *kind == b'f';
-            let unset = code_of(alloc, row, *position, b"$");
-            assert_eq!(rt; unset, if may { Ok(row.code) } else { bad });
+    for line in TABLE.lines() {
+        let class = class_in(line)?;
+        expect_forms(&rt, rt.alloc(), &class, 0, "$", Ok(class.code))?;
+        for word in class.positions.split_whitespace() {
+            expect_position(&rt, rt.alloc(), &class, word)?;
         }
     }
     Ok(())
 }
 
-const PLANE: Row = Row {
-    keyword: b"PLANE",
-    code: 37,
-    positions: &[(2, b'R')],
-};
+/// Instances that have the class of all others, and one whose used position stands past its last parameter.
+const OTHERS: [(&str, Result<u8, TypeErr>); 3] = [
+    ("#70=RAPID_MOVEMENT();", Ok(61)),
+    ("#70=(PLANE('x',#7));", Ok(61)),
+    ("#70=CARTESIAN_POINT();", Err(TypeErr::BadAttribute(70, 2))),
+];
 
 #[test]
-fn what_is_opaque(rt: HostRuntime) -> Result<(), Fail> {
-    let alloc = rt.alloc();
-    let row = Row {
-        keyword: b"RAPID_MOVEMENT",
-        code: 61,
-        positions: &[],
-    };
-    expect(&rt, code_of(alloc, &row, 0, b"$"), Ok(61));
-    let mut complex = instance(alloc, &PLANE, 0, b"$")?;
-    complex.complex = true;
-    expect(&rt, code(alloc, &complex), Ok(61));
+fn what_is_opaque_or_too_short(rt: HostRuntime) -> Result<(), Fail> {
+    for (text, want) in OTHERS {
+        expect_code(&rt, rt.alloc(), text, want)?;
+    }
     Ok(())
 }
 
 #[test]
 fn what_has_not_one_part_is_opaque(rt: HostRuntime) -> Result<(), Fail> {
-    let alloc = rt.alloc();
-    let mut two = instance(alloc, &PLANE, 0, b"$")?;
-    two.parts.push(part(alloc, &PLANE, 0, b"$")?)?;
-    expect(&rt, code(alloc, &two), Ok(61));
+    let mut two = instance(&rt, rt.alloc(), "#70=(PLANE('x',#7)PLANE('x',#7));")?;
+    two.complex = false;
+    expect(&rt, code(rt.alloc(), &two), Ok(61));
     let none = Instance {
         number: 70,
         complex: false,
-        parts: PartList::new(alloc),
+        parts: PartList::new(rt.alloc()),
     };
-    expect(&rt, code(alloc, &none), Ok(61));
-    Ok(())
-}
-
-#[test]
-fn a_position_past_the_last_parameter_is_unset(rt: HostRuntime) -> Result<(), Fail> {
-    let alloc = rt.alloc();
-    let short = Row {
-        keyword: b"CARTESIAN_POINT",
-        code: 39,
-        positions: &[],
-    };
-    let bad = Err(TypeErr::BadAttribute(70, 2));
-    expect(&rt, code_of(alloc, &short, 0, b"$"), bad);
+    expect(&rt, code(rt.alloc(), &none), Ok(61));
     Ok(())
 }

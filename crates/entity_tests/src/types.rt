@@ -6,19 +6,26 @@ ghost use Rattle.entity_types.specs.declared.class.Class.TheVariants as classes;
 ghost use Rattle.entity_types.specs.declared.field.Field.TheVariants.{Absent, Present, Ref, Value, Refs, Values};
 
 use crate::expect::expect;
-use entity_types::{Class, Edit, Entity, EntityList, Field, FieldList, Target, class_of, used};
-use nc_base::{MAX_NUMBER, NoMemory, NumberList};
+use entity_types::{
+    Class, Edit, Entity, EntityList, Field, FieldList, Target, UsedPosition, class_of, used,
+};
+use nc_base::{MAX_NUMBER, NoMemory, Number, NumberList};
 use std::alloc::Global;
 use std::process::Abort;
 use std::test::Fail;
 
+fn numbers(alloc: Global, all: &[Number]) -> Result<NumberList, NoMemory> {
+    let mut list = NumberList::new(alloc);
+    for number in all {
+        list.push(*number)?;
+    }
+    Ok(list)
+}
+
 // A workplan of two elements, with a channel.
 fn workplan(alloc: Global) -> Result<Entity, NoMemory> {
-    let mut elements = NumberList::new(alloc);
-    elements.push(10)?;
-    elements.push(11)?;
     let mut fields = FieldList::new(alloc);
-    fields.push(Field::Refs(elements))?;
+    fields.push(Field::Refs(numbers(alloc, &[10, 11])?))?;
     fields.push(Field::Ref(8))?;
     Ok(Entity {
         number: 2,
@@ -58,28 +65,30 @@ fn copies_and_uses(rt: HostRuntime) -> Result<(), Fail> {
     Ok(())
 }
 
+// Keywords, and the number of the class of each.
+const KEYWORDS: [(&[u8], u8); 16] = [
+    (b"PROJECT", 1),
+    (b"EXCHANGE_PALLET", 12),
+    (b"!NC_SUM", 26),
+    (b"NC_SUM", 61),
+    (b"PLANE", 37),
+    (b"PLANE_", 61),
+    (b"PLAN", 61),
+    (b"AXIS2_PLACEMENT_3D", 38),
+    (b"PLANE_ROUGH_MILLING", 45),
+    (b"NUMERIC_PARAMETER", 60),
+    (b"plane", 61),
+    (b"", 61),
+    (b"PLANF", 61),
+    (b"!NC_SUN", 61),
+    (b"BOTTOM_AND_SIDE_FINISH_MILLING", 48),
+    (b"BOTTOM_AND_SIDE_FINISH_MILLING_", 61),
+];
+
 #[test]
 fn keywords(rt: HostRuntime) {
-    let rows: [(&[u8], u8); 16] = [
-        (b"PROJECT", 1),
-        (b"EXCHANGE_PALLET", 12),
-        (b"!NC_SUM", 26),
-        (b"NC_SUM", 61),
-        (b"PLANE", 37),
-        (b"PLANE_", 61),
-        (b"PLAN", 61),
-        (b"AXIS2_PLACEMENT_3D", 38),
-        (b"PLANE_ROUGH_MILLING", 45),
-        (b"NUMERIC_PARAMETER", 60),
-        (b"plane", 61),
-        (b"", 61),
-        (b"PLANF", 61),
-        (b"!NC_SUN", 61),
-        (b"BOTTOM_AND_SIDE_FINISH_MILLING", 48),
-        (b"BOTTOM_AND_SIDE_FINISH_MILLING_", 61),
-    ];
-    for (keyword, code) in rows {
-        assert_eq!(rt; class_of(keyword).code(), code, "of {keyword:?}");
+    for (keyword, code) in KEYWORDS {
+        expect(&rt, class_of(keyword).code(), code);
     }
 }
 
@@ -95,13 +104,18 @@ const POSITIONS: [(Class, &[u8]); 5] = [
     (Class::Opaque, &[]),
 ];
 
+// It promises nothing, so that its caller is proved without what `used` promises.
+fn used_by(class: Class) -> &'static [UsedPosition] {
+    used(class)
+}
+
 #[test]
 fn positions(rt: HostRuntime) {
     for (class, want) in POSITIONS {
-        let positions = used(class);
-        assert_eq!(rt; positions.len(), want.len());
-        for (found, position) in positions.iter().zip(want.iter()) {
-            assert_eq!(rt; found.position, *position);
+        let positions = used_by(class);
+        expect(&rt, positions.len(), want.len());
+        for (found, position) in positions.iter().zip(want) {
+            expect(&rt, found.position, *position);
         }
     }
 }
@@ -137,9 +151,7 @@ fn unfitting()
 fn fields_of_kinds(rt: HostRuntime) -> Result<(), Fail> {
     fitting();
     unfitting();
-    let mut numbers = NumberList::new(rt.alloc());
-    numbers.push(8)?;
-    numbers.push(MAX_NUMBER)?;
+    let numbers = numbers(rt.alloc(), &[8, MAX_NUMBER])?;
     let copy = Field::Refs(numbers).copy(rt.alloc())?;
     assert_eq!(rt; copy.references(), [8, MAX_NUMBER].as_slice());
     Ok(())
@@ -198,13 +210,24 @@ const TARGETS: [(Target, [Class; 2], [Class; 2]); 9] = [
 fn targets(rt: HostRuntime) {
     for (target, inside, outside) in TARGETS {
         for class in inside {
-            assert!(rt; target.accepts(class));
+            expect(&rt, target.accepts(class), true);
         }
         for class in outside {
-            assert!(rt; !target.accepts(class));
+            expect(&rt, target.accepts(class), false);
         }
     }
-    assert!(rt; Target::Any.accepts(Class::Opaque));
-    assert!(rt; Target::Feature.accepts(Class::ClosedPocket));
-    assert!(rt; !Target::Feature.accepts(Class::LinearPath));
+}
+
+// Targets of no row of classes, and whether each takes a class.
+const OTHER_TARGETS: [(Target, Class, bool); 3] = [
+    (Target::Any, Class::Opaque, true),
+    (Target::Feature, Class::ClosedPocket, true),
+    (Target::Feature, Class::LinearPath, false),
+];
+
+#[test]
+fn other_targets(rt: HostRuntime) {
+    for (target, class, accepts) in OTHER_TARGETS {
+        expect(&rt, target.accepts(class), accepts);
+    }
 }

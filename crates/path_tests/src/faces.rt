@@ -1,12 +1,8 @@
-use crate::blocks::{self, expect_plan, rapid, tool};
-use crate::expected::expect;
-use path_blocks::{Block, Def, Shape};
-use path_plane::path;
-use std::test::Fail;
+//! Paths of planar faces.
 
-fn feed(x: i64, y: i64, z: i64) -> Block {
-    blocks::feed(x, y, z, 40)
-}
+use crate::paths::{expect_count, expect_path};
+use path_blocks::{Def, Shape};
+use std::test::Fail;
 
 /// A face of 100 mm by 50 mm along x, 2 mm deep, in rows 20 mm apart that run there and back.
 const FACE: Def = Def {
@@ -30,25 +26,24 @@ const FACE: Def = Def {
     },
 };
 
+/// Its path.
+const FACE_PATH: &str = "T 44 20000\n\
+    R 0 0 30000\n\
+    R 0 0 5000\n\
+    F 0 0 -2000 40\n\
+    F 100000 0 -2000 40\n\
+    F 100000 20000 -2000 40\n\
+    F 0 20000 -2000 40\n\
+    F 0 40000 -2000 40\n\
+    F 100000 40000 -2000 40\n\
+    F 100000 50000 -2000 40\n\
+    F 0 50000 -2000 40\n\
+    R 0 50000 5000\n\
+    R 0 50000 30000\n";
+
 #[test]
 fn rows_there_and_back(rt: HostRuntime) -> Result<(), Fail> {
-    let blocks = [
-        tool(44, 20_000),
-        rapid(0, 0, 30_000),
-        rapid(0, 0, 5_000),
-        feed(0, 0, -2_000),
-        feed(100_000, 0, -2_000),
-        feed(100_000, 20_000, -2_000),
-        feed(0, 20_000, -2_000),
-        feed(0, 40_000, -2_000),
-        feed(100_000, 40_000, -2_000),
-        feed(100_000, 50_000, -2_000),
-        feed(0, 50_000, -2_000),
-        rapid(0, 50_000, 5_000),
-        rapid(0, 50_000, 30_000),
-    ];
-    expect_plan(&rt, &path(rt.alloc(), &FACE)?, &FACE, &blocks);
-    Ok(())
+    expect_path(&rt, rt.alloc(), &FACE, FACE_PATH)
 }
 
 /// A face against y, one way only, in two levels. Its width is two steps, and the row at the width is the third.
@@ -73,31 +68,30 @@ const ONE_WAY: Def = Def {
     },
 };
 
-/// The rows of a level.
-fn rows(z: i64) -> [Block; 6] {
-    [
-        feed(10, 20, z),
-        feed(10, 15, z),
-        feed(13, 20, z),
-        feed(13, 15, z),
-        feed(16, 20, z),
-        feed(16, 15, z),
-    ]
-}
+/// Its path.
+const ONE_WAY_PATH: &str = "T 7 -1\n\
+    R 10 20 9000\n\
+    R 10 20 8000\n\
+    F 10 20 -1000 40\n\
+    F 10 15 -1000 40\n\
+    F 13 20 -1000 40\n\
+    F 13 15 -1000 40\n\
+    F 16 20 -1000 40\n\
+    F 16 15 -1000 40\n\
+    R 16 15 8000\n\
+    R 10 20 8000\n\
+    F 10 20 -2000 40\n\
+    F 10 15 -2000 40\n\
+    F 13 20 -2000 40\n\
+    F 13 15 -2000 40\n\
+    F 16 20 -2000 40\n\
+    F 16 15 -2000 40\n\
+    R 16 15 8000\n\
+    R 16 15 9000\n";
 
 #[test]
 fn rows_one_way(rt: HostRuntime) -> Result<(), Fail> {
-    let mut blocks = Vec::new(rt.alloc());
-    blocks.push(tool(7, -1))?;
-    blocks.push(rapid(10, 20, 9_000))?;
-    for z in [-1_000, -2_000] {
-        blocks.push(rapid(10, 20, 8_000))?;
-        blocks.extend_from_slice(&rows(z))?;
-        blocks.push(rapid(16, 15, 8_000))?;
-    }
-    blocks.push(rapid(16, 15, 9_000))?;
-    expect_plan(&rt, &path(rt.alloc(), &ONE_WAY)?, &ONE_WAY, &blocks);
-    Ok(())
+    expect_path(&rt, rt.alloc(), &ONE_WAY, ONE_WAY_PATH)
 }
 
 /// The face of the example plate: 120 mm along y and 100 mm across, 5 mm deep, in levels of 2.5 mm and rows 19 mm apart.
@@ -124,7 +118,5 @@ const PLATE: Def = Def {
 
 #[test]
 fn the_face_of_the_plate(rt: HostRuntime) -> Result<(), Fail> {
-    expect(&rt, path(rt.alloc(), &PLATE)?.blocks().len(), 35);
-    expect(&rt, PLATE.count(), 35);
-    Ok(())
+    expect_count(&rt, rt.alloc(), &PLATE, 35)
 }

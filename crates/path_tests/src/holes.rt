@@ -1,6 +1,7 @@
-use crate::blocks::{expect_plan, feed, rapid, tool};
-use path_blocks::{Block, Def, Shape};
-use path_drill::path;
+//! Paths of drilled holes.
+
+use crate::paths::expect_path;
+use path_blocks::{Def, Shape};
 use std::test::Fail;
 
 /// A hole with a dwell of half a second at its bottom. It is 14 mm deep and is cut in levels of 5 mm, which the path of a drilled
@@ -21,6 +22,20 @@ const DWELLING: Def = Def {
     },
 };
 
+/// Its path.
+const DWELLING_PATH: &str = "T 44 20000\n\
+    R 10000 -20000 30000\n\
+    R 10000 -20000 5000\n\
+    F 10000 -20000 -15000 40\n\
+    W 500\n\
+    R 10000 -20000 5000\n\
+    R 10000 -20000 30000\n";
+
+#[test]
+fn a_hole_with_a_dwell(rt: HostRuntime) -> Result<(), Fail> {
+    expect_path(&rt, rt.alloc(), &DWELLING, DWELLING_PATH)
+}
+
 /// Another hole, without a dwell.
 const PLAIN: Def = Def {
     tool: 7,
@@ -38,31 +53,15 @@ const PLAIN: Def = Def {
     },
 };
 
-#[test]
-fn a_hole_with_a_dwell(rt: HostRuntime) -> Result<(), Fail> {
-    let blocks = [
-        tool(44, 20_000),
-        rapid(10_000, -20_000, 30_000),
-        rapid(10_000, -20_000, 5_000),
-        feed(10_000, -20_000, -15_000, 40),
-        Block::Dwell { ms: 500 },
-        rapid(10_000, -20_000, 5_000),
-        rapid(10_000, -20_000, 30_000),
-    ];
-    expect_plan(&rt, &path(rt.alloc(), &DWELLING)?, &DWELLING, &blocks);
-    Ok(())
-}
+/// Its path.
+const PLAIN_PATH: &str = "T 7 -12500\n\
+    R -4000 0 50000\n\
+    R -4000 0 50000\n\
+    F -4000 0 -1 1\n\
+    R -4000 0 50000\n\
+    R -4000 0 50000\n";
 
 #[test]
 fn a_hole_without_a_dwell(rt: HostRuntime) -> Result<(), Fail> {
-    let blocks = [
-        tool(7, -12_500),
-        rapid(-4_000, 0, 50_000),
-        rapid(-4_000, 0, 50_000),
-        feed(-4_000, 0, -1, 1),
-        rapid(-4_000, 0, 50_000),
-        rapid(-4_000, 0, 50_000),
-    ];
-    expect_plan(&rt, &path(rt.alloc(), &PLAIN)?, &PLAIN, &blocks);
-    Ok(())
+    expect_path(&rt, rt.alloc(), &PLAIN, PLAIN_PATH)
 }

@@ -2,8 +2,6 @@
 #![tactic(auto)]
 
 #[cfg(test)]
-mod blocks;
-#[cfg(test)]
 mod expected;
 #[cfg(test)]
 mod faces;
@@ -13,6 +11,8 @@ mod holes;
 mod laws;
 #[cfg(test)]
 mod logs;
+#[cfg(test)]
+mod paths;
 #[cfg(test)]
 mod pockets;
 #[cfg(test)]

@@ -1,9 +1,11 @@
+//! Texts of logs and of blocks.
+
+use crate::expected::expect;
 use nc_base::NoMemory;
-use nc_outside::{MemorySink, Sink};
+use nc_outside::MemorySink;
 use path_blocks::Block;
 use run_log::{Ending, Entry, Log, WriteErr, write, write_blocks};
 use std::alloc::Global;
-use std::process::Abort;
 use std::test::Fail;
 
 const LOG: [Entry; 4] = [
@@ -73,15 +75,15 @@ fn log_of(alloc: Global, entries: &[Entry]) -> Result<Log, NoMemory> {
     Ok(log)
 }
 
-// Stops unless writing the log behind what the sink has taken answers as wanted.
-fn expect_written(
-    rt: &impl Abort,
+// Writes a log of these entries behind what the sink has taken.
+fn written(
+    alloc: Global,
     sink: &mut MemorySink,
-    log: &Log,
+    entries: &[Entry],
     ending: Ending,
-    want: Result<(), WriteErr>,
-) {
-    assert_eq!(rt; write(log, ending, sink), want);
+) -> Result<Result<(), WriteErr>, NoMemory> {
+    let log = log_of(alloc, entries)?;
+    Ok(write(&log, ending, sink))
 }
 
 #[test]
@@ -89,11 +91,11 @@ fn a_log_has_a_line_for_each_entry(rt: HostRuntime) -> Result<(), Fail> {
     let mut all = MemorySink::new(rt.alloc(), 1000)?;
     let mut wanted = Vec::new(rt.alloc());
     for (entries, ending, text) in TEXTS {
-        let log = log_of(rt.alloc(), entries)?;
-        expect_written(&rt, &mut all, &log, ending, Ok(()));
+        let answer = written(rt.alloc(), &mut all, entries, ending)?;
+        expect(&rt, answer, Ok(()));
         wanted.extend_from_slice(text)?;
+        expect(&rt, all.bytes(), wanted.as_slice());
     }
-    assert_eq!(rt; all.bytes(), wanted.as_slice());
     Ok(())
 }
 
@@ -101,9 +103,9 @@ fn a_log_has_a_line_for_each_entry(rt: HostRuntime) -> Result<(), Fail> {
 fn a_fault_leaves_a_front(rt: HostRuntime) -> Result<(), Fail> {
     let mut sink = MemorySink::new(rt.alloc(), 1000)?;
     sink.fail_at(1)?;
-    let log = log_of(rt.alloc(), &LOG)?;
-    expect_written(&rt, &mut sink, &log, Ending::Limit, Err(WriteErr::Failed));
-    assert_eq!(rt; sink.bytes(), b"STEPNC-LOG 1\n".as_slice());
+    let answer = written(rt.alloc(), &mut sink, &LOG, Ending::Limit)?;
+    expect(&rt, answer, Err(WriteErr::Failed));
+    expect(&rt, sink.bytes(), b"STEPNC-LOG 1\n".as_slice());
     Ok(())
 }
 
@@ -126,19 +128,22 @@ const BLOCKS: [Block; 4] = [
     Block::Dwell { ms: 250 },
 ];
 
+/// How many bytes a sink has room for, what writing the blocks to it answers, and what it has then.
+const ROOMS: [(u32, Result<(), WriteErr>, &[u8]); 2] = [
+    (
+        1000,
+        Ok(()),
+        b"T 44 20000\nR 0 -1 30000\nF 10000 20000 -15000 40\nW 250\n",
+    ),
+    (15, Err(WriteErr::Failed), b"T 44 20000\nR 0 "),
+];
+
 #[test]
 fn blocks_have_a_line_each(rt: HostRuntime) -> Result<(), Fail> {
-    for (room, want, text) in [
-        (
-            1000,
-            Ok(()),
-            b"T 44 20000\nR 0 -1 30000\nF 10000 20000 -15000 40\nW 250\n".as_slice(),
-        ),
-        (15, Err(WriteErr::Failed), b"T 44 20000\nR 0 "),
-    ] {
+    for (room, want, text) in ROOMS {
         let mut sink = MemorySink::new(rt.alloc(), room)?;
-        assert_eq!(rt; write_blocks(&BLOCKS, &mut sink), want);
-        assert_eq!(rt; sink.bytes(), text);
+        expect(&rt, write_blocks(&BLOCKS, &mut sink), want);
+        expect(&rt, sink.bytes(), text);
     }
     Ok(())
 }

@@ -1,12 +1,8 @@
-use crate::blocks::{self, expect_plan, rapid, tool};
-use crate::expected::expect;
-use path_blocks::{Block, Def, Shape};
-use path_pocket::path;
-use std::test::Fail;
+//! Paths of rectangular pockets.
 
-fn feed(x: i64, y: i64, z: i64) -> Block {
-    blocks::feed(x, y, z, 40)
-}
+use crate::paths::{expect_count, expect_path};
+use path_blocks::{Def, Shape};
+use std::test::Fail;
 
 /// A pocket of 40 mm by 20 mm, 5 mm deep, for a tool of 10 mm, in rings 4 mm apart.
 const POCKET: Def = Def {
@@ -27,27 +23,26 @@ const POCKET: Def = Def {
     },
 };
 
+/// Its path.
+const POCKET_PATH: &str = "T 44 20000\n\
+    R -11000 -1000 30000\n\
+    R -11000 -1000 5000\n\
+    F -11000 -1000 -5000 40\n\
+    F 11000 -1000 -5000 40\n\
+    F 11000 1000 -5000 40\n\
+    F -11000 1000 -5000 40\n\
+    F -11000 -1000 -5000 40\n\
+    F -15000 -5000 -5000 40\n\
+    F 15000 -5000 -5000 40\n\
+    F 15000 5000 -5000 40\n\
+    F -15000 5000 -5000 40\n\
+    F -15000 -5000 -5000 40\n\
+    R -15000 -5000 5000\n\
+    R -15000 -5000 30000\n";
+
 #[test]
 fn two_rings_from_the_inside_out(rt: HostRuntime) -> Result<(), Fail> {
-    let blocks = [
-        tool(44, 20_000),
-        rapid(-11_000, -1_000, 30_000),
-        rapid(-11_000, -1_000, 5_000),
-        feed(-11_000, -1_000, -5_000),
-        feed(11_000, -1_000, -5_000),
-        feed(11_000, 1_000, -5_000),
-        feed(-11_000, 1_000, -5_000),
-        feed(-11_000, -1_000, -5_000),
-        feed(-15_000, -5_000, -5_000),
-        feed(15_000, -5_000, -5_000),
-        feed(15_000, 5_000, -5_000),
-        feed(-15_000, 5_000, -5_000),
-        feed(-15_000, -5_000, -5_000),
-        rapid(-15_000, -5_000, 5_000),
-        rapid(-15_000, -5_000, 30_000),
-    ];
-    expect_plan(&rt, &path(rt.alloc(), &POCKET)?, &POCKET, &blocks);
-    Ok(())
+    expect_path(&rt, rt.alloc(), &POCKET, POCKET_PATH)
 }
 
 /// A pocket of 10 mm by 10 mm for a tool of 10 mm.
@@ -69,22 +64,21 @@ const POINT: Def = Def {
     },
 };
 
+/// Its path.
+const POINT_PATH: &str = "T 44 20000\n\
+    R 0 0 30000\n\
+    R 0 0 5000\n\
+    F 0 0 -5000 40\n\
+    F 0 0 -5000 40\n\
+    F 0 0 -5000 40\n\
+    F 0 0 -5000 40\n\
+    F 0 0 -5000 40\n\
+    R 0 0 5000\n\
+    R 0 0 30000\n";
+
 #[test]
 fn a_pocket_as_wide_as_its_tool(rt: HostRuntime) -> Result<(), Fail> {
-    let blocks = [
-        tool(44, 20_000),
-        rapid(0, 0, 30_000),
-        rapid(0, 0, 5_000),
-        feed(0, 0, -5_000),
-        feed(0, 0, -5_000),
-        feed(0, 0, -5_000),
-        feed(0, 0, -5_000),
-        feed(0, 0, -5_000),
-        rapid(0, 0, 5_000),
-        rapid(0, 0, 30_000),
-    ];
-    expect_plan(&rt, &path(rt.alloc(), &POINT)?, &POINT, &blocks);
-    Ok(())
+    expect_path(&rt, rt.alloc(), &POINT, POINT_PATH)
 }
 
 /// A square of 4 mm, 5 mm deep, in levels of 2 mm and rings 2 mm apart: two levels above the bottom, and a ring that is a point.
@@ -106,31 +100,50 @@ const LEVELS: Def = Def {
     },
 };
 
-/// Once round a square whose corners lie at `from` and `to`.
-fn square(from: i64, to: i64, z: i64) -> [Block; 5] {
-    [
-        feed(from, from, z),
-        feed(to, from, z),
-        feed(to, to, z),
-        feed(from, to, z),
-        feed(from, from, z),
-    ]
-}
+/// Its path: in each level the point, and once round the square.
+const LEVELS_PATH: &str = "T 7 0\n\
+    R 2000 2000 9000\n\
+    R 2000 2000 8000\n\
+    F 2000 2000 -1000 40\n\
+    F 2000 2000 -1000 40\n\
+    F 2000 2000 -1000 40\n\
+    F 2000 2000 -1000 40\n\
+    F 2000 2000 -1000 40\n\
+    F 0 0 -1000 40\n\
+    F 4000 0 -1000 40\n\
+    F 4000 4000 -1000 40\n\
+    F 0 4000 -1000 40\n\
+    F 0 0 -1000 40\n\
+    R 0 0 8000\n\
+    R 2000 2000 8000\n\
+    F 2000 2000 -3000 40\n\
+    F 2000 2000 -3000 40\n\
+    F 2000 2000 -3000 40\n\
+    F 2000 2000 -3000 40\n\
+    F 2000 2000 -3000 40\n\
+    F 0 0 -3000 40\n\
+    F 4000 0 -3000 40\n\
+    F 4000 4000 -3000 40\n\
+    F 0 4000 -3000 40\n\
+    F 0 0 -3000 40\n\
+    R 0 0 8000\n\
+    R 2000 2000 8000\n\
+    F 2000 2000 -4000 40\n\
+    F 2000 2000 -4000 40\n\
+    F 2000 2000 -4000 40\n\
+    F 2000 2000 -4000 40\n\
+    F 2000 2000 -4000 40\n\
+    F 0 0 -4000 40\n\
+    F 4000 0 -4000 40\n\
+    F 4000 4000 -4000 40\n\
+    F 0 4000 -4000 40\n\
+    F 0 0 -4000 40\n\
+    R 0 0 8000\n\
+    R 0 0 9000\n";
 
 #[test]
 fn the_last_level_is_the_bottom(rt: HostRuntime) -> Result<(), Fail> {
-    let mut blocks = Vec::new(rt.alloc());
-    blocks.push(tool(7, 0))?;
-    blocks.push(rapid(2_000, 2_000, 9_000))?;
-    for z in [-1_000, -3_000, -4_000] {
-        blocks.push(rapid(2_000, 2_000, 8_000))?;
-        blocks.extend_from_slice(&square(2_000, 2_000, z))?;
-        blocks.extend_from_slice(&square(0, 4_000, z))?;
-        blocks.push(rapid(0, 0, 8_000))?;
-    }
-    blocks.push(rapid(0, 0, 9_000))?;
-    expect_plan(&rt, &path(rt.alloc(), &LEVELS)?, &LEVELS, &blocks);
-    Ok(())
+    expect_path(&rt, rt.alloc(), &LEVELS, LEVELS_PATH)
 }
 
 /// The pocket of the example plate: 50 mm by 80 mm for a tool of 20 mm, 30 mm deep with 0.5 mm left at the bottom and 1 mm at the
@@ -155,7 +168,5 @@ const PLATE: Def = Def {
 
 #[test]
 fn the_pocket_of_the_plate(rt: HostRuntime) -> Result<(), Fail> {
-    expect(&rt, path(rt.alloc(), &PLATE)?.blocks().len(), 88);
-    expect(&rt, PLATE.count(), 88);
-    Ok(())
+    expect_count(&rt, rt.alloc(), &PLATE, 88)
 }

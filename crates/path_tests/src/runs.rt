@@ -1,3 +1,5 @@
+//! Runs of two workingsteps in a row, and what the definitions say of runs.
+
 ghost use Rattle.std.specs.Prelude.{◌≡◌, Some, None, true, false, [], ◌∷◌, pos};
 ghost use Rattle.path_blocks.specs.declared.block.Block.TheVariants.{Dwell};
 ghost use Rattle.run_log.specs.declared.entry.Entry.TheVariants as entries;
@@ -7,11 +9,13 @@ ghost use Rattle.run_core.specs.State.{is_open, blocks_since};
 ghost use Rattle.run_core.specs.Fits.{HasValues};
 ghost use Rattle.run_core.specs.Endings.{EndsSo};
 
-use crate::blocks::{feed, rapid, tool};
-use nc_base::Number;
-use path_blocks::{Block, Def, Shape, Step};
+use crate::expected::expect;
+use nc_base::NoMemory;
+use nc_outside::MemorySink;
+use path_blocks::{Def, Shape, Step};
 use run_core::run;
-use run_log::{Ending, Entry};
+use run_log::{Ending, Log, write};
+use std::alloc::Global;
 use std::test::Fail;
 
 /// A hole with a dwell at its bottom: seven blocks.
@@ -48,41 +52,33 @@ const PLAIN_HOLE: Def = Def {
     },
 };
 
-fn block(n: Number, k: u32, b: Block) -> Entry {
-    Entry::Block { n, k, b }
-}
+/// The lines of all entries that a run of step 10 and then of step 7 makes.
+const WHOLE: &str = "D 10 0\n\
+    B 10 0 T 44 20000\n\
+    B 10 1 R 10000 20000 30000\n\
+    B 10 2 R 10000 20000 5000\n\
+    B 10 3 F 10000 20000 -15000 40\n\
+    B 10 4 W 500\n\
+    B 10 5 R 10000 20000 5000\n\
+    B 10 6 R 10000 20000 30000\n\
+    E 10\n\
+    D 7 0\n\
+    B 7 0 T 46 -12500\n\
+    B 7 1 R -4000 0 50000\n\
+    B 7 2 R -4000 0 2000\n\
+    B 7 3 F -4000 0 -8000 25\n\
+    B 7 4 R -4000 0 2000\n\
+    B 7 5 R -4000 0 50000\n\
+    E 7\n";
 
-/// All that a run of step 10 and then of step 7 makes.
-fn whole() -> [Entry; 17] {
-    [
-        Entry::Dispatch { n: 10, v: 0 },
-        block(10, 0, tool(44, 20_000)),
-        block(10, 1, rapid(10_000, 20_000, 30_000)),
-        block(10, 2, rapid(10_000, 20_000, 5_000)),
-        block(10, 3, feed(10_000, 20_000, -15_000, 40)),
-        block(10, 4, Block::Dwell { ms: 500 }),
-        block(10, 5, rapid(10_000, 20_000, 5_000)),
-        block(10, 6, rapid(10_000, 20_000, 30_000)),
-        Entry::End { n: 10 },
-        Entry::Dispatch { n: 7, v: 0 },
-        block(7, 0, tool(46, -12_500)),
-        block(7, 1, rapid(-4_000, 0, 50_000)),
-        block(7, 2, rapid(-4_000, 0, 2_000)),
-        block(7, 3, feed(-4_000, 0, -8_000, 25)),
-        block(7, 4, rapid(-4_000, 0, 2_000)),
-        block(7, 5, rapid(-4_000, 0, 50_000)),
-        Entry::End { n: 7 },
-    ]
-}
-
-/// What a run of the two steps gives under each limit: how many of its entries, and which ending.
-const RUNS: [(u32, usize, Ending); 6] = [
-    (1_000, 17, Ending::Done),
-    (17, 17, Ending::Done),
-    (16, 16, Ending::Limit),
-    (12, 12, Ending::Limit),
-    (9, 9, Ending::Limit),
-    (0, 0, Ending::Limit),
+/// What a run of the two steps gives under each limit: how many of these entries, and the last line of its log.
+const RUNS: [(u32, u32, Ending, &str); 6] = [
+    (1_000, 17, Ending::Done, "end done 17\n"),
+    (17, 17, Ending::Done, "end done 17\n"),
+    (16, 16, Ending::Limit, "end limit 16\n"),
+    (12, 12, Ending::Limit, "end limit 12\n"),
+    (9, 9, Ending::Limit, "end limit 9\n"),
+    (0, 0, Ending::Limit, "end limit 0\n"),
 ];
 
 const STEPS: [Step; 2] = [
@@ -96,12 +92,37 @@ const STEPS: [Step; 2] = [
     },
 ];
 
+// The text of a log with so many of these lines, and its last one.
+fn log_of(alloc: Global, count: u32, last: &str) -> Result<String, NoMemory> {
+    let mut text = String::from_str(alloc, "STEPNC-LOG 1\n")?;
+    for line in WHOLE.lines().take(count as usize) {
+        text.push_str(line)?;
+        text.push_str("\n")?;
+    }
+    text.push_str(last)?;
+    Ok(text)
+}
+
+// The run of the two steps up to a limit. It promises nothing, so that what is done with its log is proved without what `run` promises.
+fn ran(alloc: Global, limit: u32) -> Result<(Log, Ending), NoMemory> {
+    run(alloc, &STEPS, limit)
+}
+
+// What is written of the run up to a limit, and how it ended.
+fn written(alloc: Global, limit: u32) -> Result<(MemorySink, Ending), Fail> {
+    let (log, ending) = ran(alloc, limit)?;
+    let mut sink = MemorySink::new(alloc, 1_000)?;
+    write(&log, ending, &mut sink)?;
+    Ok((sink, ending))
+}
+
 #[test]
 fn two_steps_in_a_row(rt: HostRuntime) -> Result<(), Fail> {
-    for (limit, count, ending) in RUNS {
-        let (log, answer) = run(rt.alloc(), &STEPS, limit)?;
-        assert_eq!(rt; Some(log.as_slice()), whole().get(..count), "limit {limit}");
-        assert_eq!(rt; answer, ending, "limit {limit}");
+    for (limit, count, ending, last) in RUNS {
+        let (sink, answer) = written(rt.alloc(), limit)?;
+        let log = log_of(rt.alloc(), count, last)?;
+        expect(&rt, sink.bytes(), log.as_bytes());
+        expect(&rt, answer, ending);
     }
     Ok(())
 }

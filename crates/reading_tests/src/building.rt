@@ -1,24 +1,16 @@
 //! Exchanges made of instances, and instances alone.
 
+use crate::made::{Kind, parts, simple, value, with_param};
+use crate::shared::expect;
 use ReadErr::{Syntax, TooDeep, TooMany};
 use nc_base::{MAX_NUMBER, NcText, NoMemory, Number};
 use p21_lex::{MAX_TEXT, tokens};
 use p21_parse::{
-    BuildErr, Exchange, Instance, InstanceList, Param, ParamList, Part, PartList, ReadErr,
-    instances,
+    BuildErr, Exchange, Instance, InstanceList, Param, ParamList, Part, ReadErr, instances,
 };
 use std::alloc::Global;
 use std::process::Abort;
 use std::test::Fail;
-
-#[derive(Clone, Copy, Debug)]
-enum Kind {
-    Int,
-    Real,
-    Text,
-    Enumeration,
-    Binary,
-}
 
 // Values, and whether each can be written.
 const VALUES: &[(Kind, &[u8], bool)] = &[
@@ -105,27 +97,6 @@ const NUMBERS: &[(Number, bool)] = &[
     (4_294_967_295, false),
 ];
 
-// Whether an instance is complex, how many parts it has, and whether it may.
-const PARTS: &[(bool, u32, bool)] = &[
-    (false, 0, false),
-    (false, 1, true),
-    (false, 2, false),
-    (true, 0, false),
-    (true, 1, true),
-    (true, 2, true),
-];
-
-fn value(alloc: Global, kind: Kind, bytes: &[u8]) -> Result<Param, NoMemory> {
-    let text = NcText::of(alloc, bytes)?;
-    Ok(match kind {
-        Kind::Int => Param::Int(text),
-        Kind::Real => Param::Real(text),
-        Kind::Text => Param::Text(text),
-        Kind::Enumeration => Param::Enumeration(text),
-        Kind::Binary => Param::Binary(text),
-    })
-}
-
 // So many lists in one another.
 fn nested(alloc: Global, count: u32) -> Result<Param, NoMemory> {
     let mut param = Param::List(ParamList::new(alloc));
@@ -146,121 +117,158 @@ fn typed(alloc: Global, keyword: &[u8], count: u32) -> Result<Param, NoMemory> {
     Ok(Param::Typed(NcText::of(alloc, keyword)?, params))
 }
 
-fn part(alloc: Global, keyword: &[u8]) -> Result<Part, NoMemory> {
-    Ok(Part {
-        keyword: NcText::of(alloc, keyword)?,
-        parameters: ParamList::new(alloc),
-    })
-}
-
-// A simple instance without parameters.
-fn simple(alloc: Global, number: Number, keyword: &[u8]) -> Result<Instance, NoMemory> {
-    let mut parts = PartList::new(alloc);
-    parts.push(part(alloc, keyword)?)?;
-    Ok(Instance {
-        number,
-        complex: false,
-        parts,
-    })
-}
-
-// A simple instance of one parameter.
-fn with_param(alloc: Global, number: Number, param: Param) -> Result<Instance, NoMemory> {
-    let mut only = part(alloc, b"A")?;
-    only.parameters.push(param)?;
-    let mut parts = PartList::new(alloc);
-    parts.push(only)?;
-    Ok(Instance {
-        number,
-        complex: false,
-        parts,
-    })
-}
-
 fn with_parts(
     alloc: Global,
     number: Number,
     complex: bool,
     count: u32,
 ) -> Result<Instance, NoMemory> {
-    let mut parts = PartList::new(alloc);
-    for _ in 0..count {
-        parts.push(part(alloc, b"A")?)?;
-    }
     Ok(Instance {
         number,
         complex,
-        parts,
+        parts: parts(alloc, b"A", count)?,
     })
 }
 
-// Whether an instance can stand at index 1, behind another.
-fn stands_second(rt: &impl Abort, alloc: Global, item: Instance) -> Result<bool, Fail> {
+// What an instance is made of: one parameter, or its number or keyword or form.
+#[derive(Clone, Copy)]
+enum Case {
+    Value(Kind, &'static [u8]),
+    Reference(Number),
+    // A keyword with so many parameters as a parameter.
+    Typed(&'static [u8], u32),
+    // So many lists in one another.
+    Lists(u32),
+    Unset,
+    Derived,
+    Named(Number),
+    Keyword(&'static [u8]),
+    // Whether it is complex, and how many parts it has.
+    Parts(bool, u32),
+}
+
+fn param(alloc: Global, case: Case) -> Result<Param, NoMemory> {
+    match case {
+        Case::Value(kind, bytes) => value(alloc, kind, bytes),
+        Case::Reference(number) => Ok(Param::Reference(number)),
+        Case::Typed(keyword, count) => typed(alloc, keyword, count),
+        Case::Lists(count) => nested(alloc, count),
+        Case::Derived => Ok(Param::Derived),
+        _ => Ok(Param::Unset),
+    }
+}
+
+fn instance(alloc: Global, case: Case) -> Result<Instance, NoMemory> {
+    match case {
+        Case::Named(number) => simple(alloc, number, b"A"),
+        Case::Keyword(keyword) => simple(alloc, 8, keyword),
+        Case::Parts(complex, count) => with_parts(alloc, 8, complex, count),
+        _ => with_param(alloc, 8, param(alloc, case)?),
+    }
+}
+
+// How many instances an exchange has that is made of these, or why there is none.
+fn made(alloc: Global, items: InstanceList) -> Result<u32, BuildErr> {
+    let exchange = Exchange::of(alloc, items)?;
+    Ok(exchange.items.len())
+}
+
+// An instance that can stand anywhere, and one behind it.
+fn two(alloc: Global, case: Case) -> Result<InstanceList, NoMemory> {
     let mut items = InstanceList::new(alloc);
     items.push(simple(alloc, 7, b"A")?)?;
-    items.push(item)?;
-    match Exchange::of(alloc, items) {
-        Ok(exchange) => {
-            assert_eq!(rt; exchange.items.len(), 2);
-            Ok(true)
-        }
-        Err(e) => {
-            assert_eq!(rt; e, BuildErr::Invalid(1));
-            Ok(false)
-        }
-    }
+    items.push(instance(alloc, case)?)?;
+    Ok(items)
+}
+
+// Stops unless the instance of the case can stand at index 1, behind another, or can't.
+fn expect_stands(
+    rt: &impl Abort,
+    alloc: Global,
+    row: usize,
+    case: Case,
+    valid: bool,
+) -> Result<(), Fail> {
+    let want = if valid {
+        Ok(2)
+    } else {
+        Err(BuildErr::Invalid(1))
+    };
+    let answer = made(alloc, two(alloc, case)?);
+    assert_eq!(rt; answer, want, "row {row}");
+    Ok(())
 }
 
 #[test]
 fn values_of_instances_are_looked_at(rt: HostRuntime) -> Result<(), Fail> {
-    let alloc = rt.alloc();
-    for (kind, bytes, valid) in VALUES {
-        let item = with_param(alloc, 8, value(alloc, *kind, *bytes)?)?;
-        assert_eq!(rt;
-            stands_second(&rt, alloc, item)?,
-            *valid,
-            "{kind:?} {bytes:?}"
-        );
-    }
-    for (number, valid) in NUMBERS {
-        let item = with_param(alloc, 8, Param::Reference(*number))?;
-        assert_eq!(rt; stands_second(&rt, alloc, item)?, *valid, "{number}");
-        let own = simple(alloc, *number, b"A")?;
-        assert_eq!(rt; stands_second(&rt, alloc, own)?, *valid, "{number}");
-    }
-    for (keyword, valid) in KEYWORDS {
-        let item = simple(alloc, 8, *keyword)?;
-        assert_eq!(rt; stands_second(&rt, alloc, item)?, *valid, "{keyword:?}");
-        let inner = with_param(alloc, 8, typed(alloc, *keyword, 1)?)?;
-        assert_eq!(rt; stands_second(&rt, alloc, inner)?, *valid, "{keyword:?}");
+    for (row, (kind, bytes, valid)) in VALUES.iter().enumerate() {
+        let case = Case::Value(*kind, *bytes);
+        expect_stands(&rt, rt.alloc(), row, case, *valid)?;
     }
     Ok(())
 }
 
 #[test]
-fn forms_of_instances_are_looked_at(rt: HostRuntime) -> Result<(), Fail> {
-    let alloc = rt.alloc();
-    for (complex, count, valid) in PARTS {
-        let item = with_parts(alloc, 8, *complex, *count)?;
-        assert_eq!(rt;
-            stands_second(&rt, alloc, item)?,
-            *valid,
-            "{complex} {count}"
-        );
+fn numbers_of_instances_are_looked_at(rt: HostRuntime) -> Result<(), Fail> {
+    for (row, (number, valid)) in NUMBERS.iter().enumerate() {
+        for case in [Case::Reference(*number), Case::Named(*number)] {
+            expect_stands(&rt, rt.alloc(), row, case, *valid)?;
+        }
     }
-    for (count, valid) in [(0, false), (1, true), (2, false)] {
-        let item = with_param(alloc, 8, typed(alloc, b"B", count)?)?;
-        assert_eq!(rt; stands_second(&rt, alloc, item)?, valid, "{count}");
+    Ok(())
+}
+
+#[test]
+fn keywords_of_instances_are_looked_at(rt: HostRuntime) -> Result<(), Fail> {
+    for (row, (keyword, valid)) in KEYWORDS.iter().enumerate() {
+        for case in [Case::Keyword(*keyword), Case::Typed(*keyword, 1)] {
+            expect_stands(&rt, rt.alloc(), row, case, *valid)?;
+        }
     }
+    Ok(())
+}
+
+// Forms of instances and of parameters, and whether each can be written.
+const FORMS: &[(Case, bool)] = &[
+    (Case::Parts(false, 0), false),
+    (Case::Parts(false, 1), true),
+    (Case::Parts(false, 2), false),
+    (Case::Parts(true, 0), false),
+    (Case::Parts(true, 1), true),
+    (Case::Parts(true, 2), true),
+    (Case::Typed(b"B", 0), false),
+    (Case::Typed(b"B", 1), true),
+    (Case::Typed(b"B", 2), false),
     // The parentheses of the part are one more.
-    for (count, valid) in [(1, true), (31, true), (32, false), (100, false)] {
-        let item = with_param(alloc, 8, nested(alloc, count)?)?;
-        assert_eq!(rt; stands_second(&rt, alloc, item)?, valid, "{count}");
+    (Case::Lists(1), true),
+    (Case::Lists(31), true),
+    (Case::Lists(32), false),
+    (Case::Lists(100), false),
+    (Case::Unset, true),
+    (Case::Derived, true),
+];
+
+#[test]
+fn forms_of_instances_are_looked_at(rt: HostRuntime) -> Result<(), Fail> {
+    for (row, (case, valid)) in FORMS.iter().enumerate() {
+        expect_stands(&rt, rt.alloc(), row, *case, *valid)?;
     }
-    let unset = with_param(alloc, 8, Param::Unset)?;
-    assert!(rt; stands_second(&rt, alloc, unset)?);
-    let derived = with_param(alloc, 8, Param::Derived)?;
-    assert!(rt; stands_second(&rt, alloc, derived)?);
+    Ok(())
+}
+
+// Instances of these numbers and keywords.
+fn listed(alloc: Global, rows: &[(Number, &[u8])]) -> Result<InstanceList, NoMemory> {
+    let mut items = InstanceList::new(alloc);
+    for (number, keyword) in rows {
+        items.push(simple(alloc, *number, *keyword)?)?;
+    }
+    Ok(items)
+}
+
+#[test]
+fn behind_an_instance_that_cant_stand_nothing_is_looked_at(rt: HostRuntime) -> Result<(), Fail> {
+    let items = listed(rt.alloc(), &[(5, b"A"), (5, b"B"), (5, b"C"), (0, b"-")])?;
+    expect(&rt, made(rt.alloc(), items), Err(BuildErr::Invalid(1)));
     Ok(())
 }
 
@@ -274,26 +282,18 @@ fn many(alloc: Global, count: u32, last: Number) -> Result<InstanceList, NoMemor
     Ok(items)
 }
 
+// How many instances of distinct numbers there are, the number of one more, and what that is made to.
+const COUNTS: [(u32, Number, Result<u32, BuildErr>); 3] = [
+    (199_999, 300_000, Ok(200_000)),
+    (199_999, 1, Err(BuildErr::Invalid(199_999))),
+    (200_000, 300_000, Err(BuildErr::Invalid(200_000))),
+];
+
 #[test]
 fn numbers_and_counts_are_looked_at(rt: HostRuntime) -> Result<(), Fail> {
-    let alloc = rt.alloc();
-    let mut twice = InstanceList::new(alloc);
-    twice.push(simple(alloc, 5, b"A")?)?;
-    twice.push(simple(alloc, 5, b"B")?)?;
-    // Behind the first that can't stand there nothing is looked at.
-    twice.push(simple(alloc, 5, b"C")?)?;
-    twice.push(simple(alloc, 0, b"-")?)?;
-    assert_eq!(rt;
-        Exchange::of(alloc, twice).err(),
-        Some(BuildErr::Invalid(1))
-    );
-    for (count, last, invalid) in [
-        (199_999, 300_000, None),
-        (199_999, 1, Some(BuildErr::Invalid(199_999))),
-        (200_000, 300_000, Some(BuildErr::Invalid(200_000))),
-    ] {
-        let answer = Exchange::of(alloc, many(alloc, count, last)?);
-        assert_eq!(rt; answer.err(), invalid, "{count} {last}");
+    for (count, last, want) in COUNTS {
+        let items = many(rt.alloc(), count, last)?;
+        expect(&rt, made(rt.alloc(), items), want);
     }
     Ok(())
 }
@@ -322,29 +322,43 @@ fn is_level(param: &Param) -> bool {
     }
 }
 
+// Whether a parameter is an empty text, a list of one, or the text `2;1`, by its form: `'`, `(` or `2`.
+fn has_form(param: &Param, form: u8) -> bool {
+    match form {
+        b'\'' => is_empty_text(param),
+        b'(' => is_one_empty(param),
+        _ => is_level(param),
+    }
+}
+
+fn have_forms(params: &[Param], forms: &[u8]) -> bool {
+    for (param, form) in params.iter().zip(forms) {
+        if !has_form(param, *form) {
+            return false;
+        }
+    }
+    params.len() == forms.len()
+}
+
+fn is_entry(entry: &Part, keyword: &[u8], forms: &[u8]) -> bool {
+    entry.keyword.bytes() == keyword && have_forms(entry.parameters.as_slice(), forms)
+}
+
+// The entries of the standard header, and the forms of their parameters.
+const ENTRIES: [(&[u8], &[u8]); 3] = [
+    (b"FILE_DESCRIPTION", b"(2"),
+    (b"FILE_NAME", b"''(('''"),
+    (b"FILE_SCHEMA", b"("),
+];
+
 #[test]
 fn instances_stand_under_the_standard_header(rt: HostRuntime) -> Result<(), Fail> {
     let exchange = Exchange::of(rt.alloc(), InstanceList::new(rt.alloc()))?;
-    assert!(rt; exchange.items.is_empty());
-    let [description, name, schema] = exchange.head.as_slice() else {
-        panic!(rt; "not three entries")
-    };
-    assert_eq!(rt; description.keyword.bytes(), b"FILE_DESCRIPTION".as_slice());
-    let [nothing, level] = description.parameters.as_slice() else {
-        panic!(rt; "not two parameters")
-    };
-    assert!(rt; is_one_empty(nothing) && is_level(level));
-    assert_eq!(rt; name.keyword.bytes(), b"FILE_NAME".as_slice());
-    let [a, b, c, d, e, f, g] = name.parameters.as_slice() else {
-        panic!(rt; "not seven parameters")
-    };
-    assert!(rt; is_empty_text(a) && is_empty_text(b) && is_one_empty(c) && is_one_empty(d));
-    assert!(rt; is_empty_text(e) && is_empty_text(f) && is_empty_text(g));
-    assert_eq!(rt; schema.keyword.bytes(), b"FILE_SCHEMA".as_slice());
-    let [only] = schema.parameters.as_slice() else {
-        panic!(rt; "not one parameter")
-    };
-    assert!(rt; is_one_empty(only));
+    expect(&rt, exchange.items.len(), 0);
+    expect(&rt, exchange.head.len(), 3);
+    for (entry, (keyword, forms)) in exchange.head.as_slice().iter().zip(&ENTRIES) {
+        assert!(rt; is_entry(entry, keyword, forms), "not {keyword:?}");
+    }
     Ok(())
 }
 
@@ -406,19 +420,32 @@ fn following(
     instances(alloc, text, tokens.as_slice(), from, most)
 }
 
+// How many instances follow, up to which token, or why not.
+fn sizes_of(
+    rt: &impl Abort,
+    alloc: Global,
+    text: &[u8],
+    from: u32,
+    most: u32,
+) -> Result<(u32, u32), ReadErr> {
+    let (items, next) = following(rt, alloc, text, from, most)?;
+    Ok((items.len(), next))
+}
+
 #[test]
-fn instances_alone_are_read_or_refused(rt: HostRuntime) -> Result<(), Fail> {
+fn instances_alone_are_read_or_refused(rt: HostRuntime) {
     for (text, from, most, wanted) in FOLLOWING {
-        match following(&rt, rt.alloc(), *text, *from, *most) {
-            Ok((items, next)) => assert_eq!(rt; Ok((items.len(), next)), *wanted, "{text:?}"),
-            Err(e) => assert_eq!(rt; Err(e), *wanted, "{text:?}"),
-        }
+        let sizes = sizes_of(&rt, rt.alloc(), *text, *from, *most);
+        assert_eq!(rt; sizes, *wanted, "{text:?}");
     }
+}
+
+#[test]
+fn instances_alone_have_their_numbers(rt: HostRuntime) -> Result<(), Fail> {
     let (items, _) = following(&rt, rt.alloc(), MOVED, 1, 2)?;
-    let [first, second] = items.as_slice() else {
-        panic!(rt; "not two instances")
-    };
-    assert_eq!(rt; first.number, 5);
-    assert_eq!(rt; second.number, 6);
+    expect(&rt, items.len(), 2);
+    for (item, number) in items.as_slice().iter().zip(&[5, 6]) {
+        expect(&rt, item.number, *number);
+    }
     Ok(())
 }

@@ -1,291 +1,201 @@
 //! The tokens of texts, whole and slice by slice.
 
-use LexErr::{BadByte, BadName, NumberTooLong, OpenComment, OpenString};
-use TokenKind::{
-    Binary, Close, Comma, Dollar, Enumeration, Equals, Int, Name, Open, Real, Semicolon, Star,
-    Text, UserWord, Word,
-};
+use crate::rows::{bytes_of, number, row};
+use crate::shared::expect;
+use LexErr::BadByte;
+use TokenKind::{Enumeration, Int, Name};
 use p21_lex::{
     LexErr, MAX_NAME, Piece, Token, TokenKind, name_number, next_piece, reading_laws, slice_tokens,
     spells, tokens, tokens_fit,
 };
-use std::alloc::Global;
+use std::alloc::{AllocError, Global};
 use std::process::Abort;
 use std::test::Fail;
 
-// The tokens of a text by kind and places, none where it is refused, and the refusal.
-type Row<'a> = (&'a [u8], &'a [(TokenKind, u32, u32)], Option<LexErr>);
+// In each row a text, and its tokens by kind and places, or why it is refused.
 
-const WORDS: [Row<'static>; 20] = [
-    // Words, and blanks and comments between them.
-    (b"", &[], None),
-    (b" \t\r\n", &[], None),
-    (
-        b"ISO-10303-21;",
-        &[(Word, 0, 12), (Semicolon, 12, 13)],
-        None,
-    ),
-    (b"_A1 B", &[(Word, 0, 3), (Word, 4, 5)], None),
-    (b"A-5", &[(Word, 0, 3)], None),
-    (b"!A-5", &[(UserWord, 0, 2), (Int, 2, 4)], None),
-    (b"1/**/2", &[(Int, 0, 1), (Int, 5, 6)], None),
-    (b"/* ** /* */A/***/", &[(Word, 11, 12)], None),
-    (b"a", &[], Some(BadByte(0))),
-    (b"A\0", &[], Some(BadByte(1))),
-    (b"A!", &[], Some(BadByte(1))),
-    (b"!1", &[], Some(BadByte(0))),
-    (b"1/2", &[], Some(BadByte(1))),
-    (b"/", &[], Some(BadByte(0))),
-    (b"A/*/", &[], Some(OpenComment(1))),
-    (b"/* ", &[], Some(OpenComment(0))),
-    (b"/*\0", &[], Some(BadByte(2))),
-    (b"/*\0*/", &[], Some(BadByte(2))),
-    // The marks.
-    (
-        b"(),;=$*",
-        &[
-            (Open, 0, 1),
-            (Close, 1, 2),
-            (Comma, 2, 3),
-            (Semicolon, 3, 4),
-            (Equals, 4, 5),
-            (Dollar, 5, 6),
-            (Star, 6, 7),
-        ],
-        None,
-    ),
-    (b"(&", &[], Some(BadByte(1))),
-];
+/// Words, blanks and comments between them, and marks.
+const WORDS: &str = "|\n\
+    \x20\t\r¶|\n\
+    ISO-10303-21;|Word 0 12, Semicolon 12 13\n\
+    _A1 B|Word 0 3, Word 4 5\n\
+    A-5|Word 0 3\n\
+    !A-5|UserWord 0 2, Int 2 4\n\
+    1/**/2|Int 0 1, Int 5 6\n\
+    /* ** /* */A/***/|Word 11 12\n\
+    a|BadByte(0)\n\
+    A\0|BadByte(1)\n\
+    A!|BadByte(1)\n\
+    !1|BadByte(0)\n\
+    1/2|BadByte(1)\n\
+    /|BadByte(0)\n\
+    A/*/|OpenComment(1)\n\
+    /* |OpenComment(0)\n\
+    /*\0|BadByte(2)\n\
+    /*\0*/|BadByte(2)\n\
+    (),;=$*|Open 0 1, Close 1 2, Comma 2 3, Semicolon 3 4, Equals 4 5, Dollar 5 6, Star 6 7\n\
+    (&|BadByte(1)\n";
 
-const NUMBERS: [Row<'static>; 28] = [
-    // Names.
-    (
-        b"#1=#02",
-        &[(Name, 0, 2), (Equals, 2, 3), (Name, 3, 6)],
-        None,
-    ),
-    (b"#2147483647", &[(Name, 0, 11)], None),
-    (
-        b"#000000000000000000000000000000000000000002147483647",
-        &[(Name, 0, 52)],
-        None,
-    ),
-    (b"#2147483648", &[], Some(BadName(0))),
-    (
-        b" #99999999999999999999999999999999999999999999",
-        &[],
-        Some(BadName(1)),
-    ),
-    (b"A#0", &[], Some(BadName(1))),
-    (b"#000", &[], Some(BadName(0))),
-    (b"#", &[], Some(BadByte(0))),
-    (b"1#A", &[], Some(BadByte(1))),
-    // Numbers.
-    (b"+5-07", &[(Int, 0, 2), (Int, 2, 5)], None),
-    (b"5.", &[(Real, 0, 2)], None),
-    (b"-1.50E+03", &[(Real, 0, 9)], None),
-    (b"1.E", &[(Real, 0, 2), (Word, 2, 3)], None),
-    (b"1.E2E3", &[(Real, 0, 4), (Word, 4, 6)], None),
-    (b"1.E+", &[], Some(BadByte(3))),
-    (b"1.E-", &[(Real, 0, 2), (Word, 2, 4)], None),
-    (b"1..T.", &[(Real, 0, 2), (Enumeration, 2, 5)], None),
-    (b"-0 -0.", &[(Int, 0, 2), (Real, 3, 6)], None),
-    (b".5", &[], Some(BadByte(0))),
-    (b"1E5", &[(Int, 0, 1), (Word, 1, 3)], None),
-    (b"A.-5.", &[], Some(BadByte(1))),
-    (b"-", &[], Some(BadByte(0))),
-    (b"+.5", &[], Some(BadByte(0))),
-    (
-        b"12345678901234567890123456789012345678",
-        &[(Int, 0, 38)],
-        None,
-    ),
-    (
-        b"A +123456789012345678901234567890123456789",
-        &[],
-        Some(NumberTooLong(2)),
-    ),
-    (
-        b"1234567890123456789012345678.12345E-12345",
-        &[(Real, 0, 41)],
-        None,
-    ),
-    (
-        b"1234567890123456789012345678.12345E-123456",
-        &[],
-        Some(NumberTooLong(0)),
-    ),
-    (
-        b"12345678901234567890123456789012345678.0",
-        &[],
-        Some(NumberTooLong(0)),
-    ),
-];
+/// Names and numbers.
+const NUMBERS: &str = "#1=#02|Name 0 2, Equals 2 3, Name 3 6\n\
+    #2147483647|Name 0 11\n\
+    #000000000000000000000000000000000000000002147483647|Name 0 52\n\
+    #2147483648|BadName(0)\n\
+    \x20#99999999999999999999999999999999999999999999|BadName(1)\n\
+    A#0|BadName(1)\n\
+    #000|BadName(0)\n\
+    #|BadByte(0)\n\
+    1#A|BadByte(1)\n\
+    +5-07|Int 0 2, Int 2 5\n\
+    5.|Real 0 2\n\
+    -1.50E+03|Real 0 9\n\
+    1.E|Real 0 2, Word 2 3\n\
+    1.E2E3|Real 0 4, Word 4 6\n\
+    1.E+|BadByte(3)\n\
+    1.E-|Real 0 2, Word 2 4\n\
+    1..T.|Real 0 2, Enumeration 2 5\n\
+    -0 -0.|Int 0 2, Real 3 6\n\
+    .5|BadByte(0)\n\
+    1E5|Int 0 1, Word 1 3\n\
+    A.-5.|BadByte(1)\n\
+    -|BadByte(0)\n\
+    +.5|BadByte(0)\n\
+    12345678901234567890123456789012345678|Int 0 38\n\
+    A +123456789012345678901234567890123456789|NumberTooLong(2)\n\
+    1234567890123456789012345678.12345E-12345|Real 0 41\n\
+    1234567890123456789012345678.12345E-123456|NumberTooLong(0)\n\
+    12345678901234567890123456789012345678.0|NumberTooLong(0)\n";
 
-const TEXTS: [Row<'static>; 21] = [
-    // Texts.
-    (b"''", &[(Text, 0, 2)], None),
-    (b"''''", &[(Text, 0, 4)], None),
-    (
-        b"'it''s','\x80\x7f\t'",
-        &[(Text, 0, 7), (Comma, 7, 8), (Text, 8, 13)],
-        None,
-    ),
-    (b"'a''", &[], Some(OpenString(0))),
-    (b"A'a''b", &[], Some(OpenString(1))),
-    (b"'''", &[], Some(OpenString(0))),
-    (b"'a\x01", &[], Some(BadByte(2))),
-    (b"'a''\x01b'", &[], Some(BadByte(4))),
-    (b"'a''b'',''c'", &[(Text, 0, 12)], None),
-    (b"'\r\n\xff'/*\t\xff*/", &[(Text, 0, 5)], None),
-    (b"'\x1f'", &[], Some(BadByte(1))),
-    // Binaries and enumerations.
-    (b"\"0A9F\"\"\"", &[(Binary, 0, 6), (Binary, 6, 8)], None),
-    (b"A\"0", &[], Some(OpenString(1))),
-    (b"\"0G", &[], Some(BadByte(2))),
-    (b"\"0\n\"", &[], Some(BadByte(2))),
-    (b"\"\"\"", &[], Some(OpenString(2))),
-    (
-        b".T..U_9.",
-        &[(Enumeration, 0, 3), (Enumeration, 3, 8)],
-        None,
-    ),
-    (b".T", &[], Some(BadByte(0))),
-    (b".T-.", &[], Some(BadByte(0))),
-    (b".9.", &[], Some(BadByte(0))),
-    (b"..", &[], Some(BadByte(0))),
-];
+/// Texts, binaries and enumerations.
+const TEXTS: &str = "''|Text 0 2\n\
+    ''''|Text 0 4\n\
+    'it''s','\u{80}\x7f\t'|Text 0 7, Comma 7 8, Text 8 13\n\
+    'a''|OpenString(0)\n\
+    A'a''b|OpenString(1)\n\
+    '''|OpenString(0)\n\
+    'a\x01|BadByte(2)\n\
+    'a''\x01b'|BadByte(4)\n\
+    'a''b'',''c'|Text 0 12\n\
+    '\r¶\u{ff}'/*\t\u{ff}*/|Text 0 5\n\
+    '\x1f'|BadByte(1)\n\
+    \"0A9F\"\"\"|Binary 0 6, Binary 6 8\n\
+    A\"0|OpenString(1)\n\
+    \"0G|BadByte(2)\n\
+    \"0¶\"|BadByte(2)\n\
+    \"\"\"|OpenString(2)\n\
+    .T..U_9.|Enumeration 0 3, Enumeration 3 8\n\
+    .T|BadByte(0)\n\
+    .T-.|BadByte(0)\n\
+    .9.|BadByte(0)\n\
+    ..|BadByte(0)\n";
 
-fn expect_tokens(rt: &impl Abort, found: &[Token], want: &[(TokenKind, u32, u32)], text: &[u8]) {
-    assert_eq!(rt; found.len(), want.len(), "of {text:?}");
-    for (token, (kind, start, end)) in found.iter().zip(want.iter()) {
-        assert_eq!(rt;
-            *token,
-            Token {
-                kind: *kind,
-                start: *start,
-                end: *end
-            },
-            "in {text:?}"
-        );
+/// Tokens by kind and places.
+fn listed(alloc: Global, found: &[Token]) -> Result<String, AllocError> {
+    let mut text = String::new(alloc);
+    for token in found {
+        let Token { kind, start, end } = *token;
+        let comma = if text.is_empty() { "" } else { ", " };
+        text.push_str(&format!(in alloc; "{comma}{kind:?} {start} {end}")?)?;
     }
+    Ok(text)
 }
 
-// The slice of a text of so many bytes at least: its tokens, and how many bytes it has, or why there is none.
-type SliceRow<'a> = (
-    &'a [u8],
-    u32,
-    &'a [(TokenKind, u32, u32)],
-    Result<u32, LexErr>,
-);
-
-const SLICES: [SliceRow<'static>; 20] = [
-    (b"", 0, &[], Ok(0)),
-    (b" \n", 0, &[], Ok(2)),
-    (b"A;B;C", 0, &[(Word, 0, 1), (Semicolon, 1, 2)], Ok(2)),
-    (b"A;B;C", 2, &[(Word, 0, 1), (Semicolon, 1, 2)], Ok(2)),
-    (
-        b"A;B;C",
-        3,
-        &[
-            (Word, 0, 1),
-            (Semicolon, 1, 2),
-            (Word, 2, 3),
-            (Semicolon, 3, 4),
-        ],
-        Ok(4),
-    ),
-    (
-        b"A;B;C",
-        5,
-        &[
-            (Word, 0, 1),
-            (Semicolon, 1, 2),
-            (Word, 2, 3),
-            (Semicolon, 3, 4),
-            (Word, 4, 5),
-        ],
-        Ok(5),
-    ),
-    (b"A ", 0, &[(Word, 0, 1)], Ok(2)),
-    (b"A; ", 2, &[(Word, 0, 1), (Semicolon, 1, 2)], Ok(2)),
-    (b";;", 0, &[(Semicolon, 0, 1)], Ok(1)),
-    (b";;", 2, &[(Semicolon, 0, 1), (Semicolon, 1, 2)], Ok(2)),
-    // Semicolons that are no tokens.
-    (b"';';B", 0, &[(Text, 0, 3), (Semicolon, 3, 4)], Ok(4)),
-    (b"/*;*/;B", 0, &[(Semicolon, 5, 6)], Ok(6)),
-    // An exponent, and an E that is none, before the end of a slice.
-    (b"1.E2;3", 0, &[(Real, 0, 4), (Semicolon, 4, 5)], Ok(5)),
-    (
-        b"1.E;2",
-        0,
-        &[(Real, 0, 2), (Word, 2, 3), (Semicolon, 3, 4)],
-        Ok(4),
-    ),
-    // What stands behind a slice is not looked at.
-    (b"A;?", 0, &[(Word, 0, 1), (Semicolon, 1, 2)], Ok(2)),
-    (b"A;?", 3, &[], Err(BadByte(2))),
-    (b"A;'", 2, &[(Word, 0, 1), (Semicolon, 1, 2)], Ok(2)),
-    (b"A;'", 4, &[], Err(OpenString(2))),
-    (b"?;", 0, &[], Err(BadByte(0))),
-    (b"A /*;", 0, &[], Err(OpenComment(2))),
-];
-
-fn expect_slice(rt: &impl Abort, alloc: Global, row: &SliceRow<'static>) {
-    let (text, least, want, end) = row;
+/// The tokens of a text, or why it is refused.
+fn shown(rt: &impl Abort, alloc: Global, text: &[u8]) -> Result<String, AllocError> {
     assert!(rt; text.len() < 100);
-    match slice_tokens(alloc, *text, *least) {
-        Ok((found, len)) => {
-            assert_eq!(rt; Ok(len), *end, "of {text:?}");
-            expect_tokens(rt, &found, *want, *text);
-        }
-        Err(e) => assert_eq!(rt; Err(e), *end, "of {text:?}"),
+    match tokens(alloc, text) {
+        Ok(found) => listed(alloc, found.as_slice()),
+        Err(refusal) => format!(in alloc; "{refusal:?}"),
     }
 }
 
-fn expect_row(
+fn expect_row(rt: &impl Abort, alloc: Global, line: &str) -> Result<(), Fail> {
+    let (text, want) = row(line);
+    let bytes = bytes_of(alloc, text)?;
+    let found = shown(rt, alloc, bytes.as_slice())?;
+    assert_eq!(rt; found.as_str(), want, "of {text}");
+    Ok(())
+}
+
+fn expect_rows(rt: &impl Abort, alloc: Global, table: &str) -> Result<(), Fail> {
+    for line in table.lines() {
+        expect_row(rt, alloc, line)?;
+    }
+    Ok(())
+}
+
+#[test]
+fn words(rt: HostRuntime) -> Result<(), Fail> {
+    expect_rows(&rt, rt.alloc(), WORDS)
+}
+
+#[test]
+fn numbers(rt: HostRuntime) -> Result<(), Fail> {
+    expect_rows(&rt, rt.alloc(), NUMBERS)
+}
+
+#[test]
+fn texts(rt: HostRuntime) -> Result<(), Fail> {
+    expect_rows(&rt, rt.alloc(), TEXTS)
+}
+
+/// In each row how many bytes the slice has at least, the text, and the slice's tokens and end, or why it is refused. Semicolons in texts and
+/// comments are no tokens, `1.E2` has an exponent and `1.E` none, and what stands behind a slice is not looked at.
+const SLICES: &str = "0||end 0\n\
+    0| ¶|end 2\n\
+    0|A;B;C|Word 0 1, Semicolon 1 2 | end 2\n\
+    2|A;B;C|Word 0 1, Semicolon 1 2 | end 2\n\
+    3|A;B;C|Word 0 1, Semicolon 1 2, Word 2 3, Semicolon 3 4 | end 4\n\
+    5|A;B;C|Word 0 1, Semicolon 1 2, Word 2 3, Semicolon 3 4, Word 4 5 | end 5\n\
+    0|A |Word 0 1 | end 2\n\
+    2|A; |Word 0 1, Semicolon 1 2 | end 2\n\
+    0|;;|Semicolon 0 1 | end 1\n\
+    2|;;|Semicolon 0 1, Semicolon 1 2 | end 2\n\
+    0|';';B|Text 0 3, Semicolon 3 4 | end 4\n\
+    0|/*;*/;B|Semicolon 5 6 | end 6\n\
+    0|1.E2;3|Real 0 4, Semicolon 4 5 | end 5\n\
+    0|1.E;2|Real 0 2, Word 2 3, Semicolon 3 4 | end 4\n\
+    0|A;?|Word 0 1, Semicolon 1 2 | end 2\n\
+    3|A;?|BadByte(2)\n\
+    2|A;'|Word 0 1, Semicolon 1 2 | end 2\n\
+    4|A;'|OpenString(2)\n\
+    0|?;|BadByte(0)\n\
+    0|A /*;|OpenComment(2)\n";
+
+/// The slice of a text that has so many bytes at least, with its end, or why it is refused.
+fn shown_slice(
     rt: &impl Abort,
     alloc: Global,
     text: &[u8],
-    want: &[(TokenKind, u32, u32)],
-    error: Option<LexErr>,
-) {
+    least: u32,
+) -> Result<String, AllocError> {
     assert!(rt; text.len() < 100);
-    match tokens(alloc, text) {
-        Ok(found) => {
-            assert_eq!(rt; error, None, "of {text:?}");
-            expect_tokens(rt, &found, want, text);
+    match slice_tokens(alloc, text, least) {
+        Ok((found, end)) => {
+            let mut shown = listed(alloc, found.as_slice())?;
+            let bar = if found.is_empty() { "" } else { " | " };
+            shown.push_str(&format!(in alloc; "{bar}end {end}")?)?;
+            Ok(shown)
         }
-        Err(e) => assert_eq!(rt; Some(e), error, "of {text:?}"),
+        Err(refusal) => format!(in alloc; "{refusal:?}"),
     }
 }
 
-fn expect_rows(rt: &impl Abort, alloc: Global, rows: &[Row<'static>]) {
-    for (text, want, error) in rows {
-        expect_row(rt, alloc, text, want, *error);
+fn expect_slice(rt: &impl Abort, alloc: Global, line: &str) -> Result<(), Fail> {
+    let (least, rest) = row(line);
+    let (text, want) = row(rest);
+    let bytes = bytes_of(alloc, text)?;
+    let found = shown_slice(rt, alloc, bytes.as_slice(), number(least))?;
+    assert_eq!(rt; found.as_str(), want, "of {text}");
+    Ok(())
+}
+
+#[test]
+fn slices(rt: HostRuntime) -> Result<(), Fail> {
+    for line in SLICES.lines() {
+        expect_slice(&rt, rt.alloc(), line)?;
     }
-}
-
-#[test]
-fn words(rt: HostRuntime) {
-    expect_rows(&rt, rt.alloc(), &WORDS);
-}
-
-#[test]
-fn numbers(rt: HostRuntime) {
-    expect_rows(&rt, rt.alloc(), &NUMBERS);
-}
-
-#[test]
-fn texts(rt: HostRuntime) {
-    expect_rows(&rt, rt.alloc(), &TEXTS);
-}
-
-#[test]
-fn slices(rt: HostRuntime) {
-    for row in &SLICES {
-        expect_slice(&rt, rt.alloc(), row);
-    }
+    Ok(())
 }
 
 fn expect_name(rt: &impl Abort, text: &[u8], want: u32) {
@@ -305,12 +215,24 @@ fn names(rt: HostRuntime) {
     }
 }
 
+// Texts that stand at byte 7, and the piece that each begins with.
+const PIECES: [(&[u8], Result<Piece, LexErr>); 3] = [
+    (b".T.", Ok(Piece::Spelling(Enumeration, 3))),
+    (b" ", Ok(Piece::Gap(1))),
+    (b"?", Err(BadByte(7))),
+];
+
 #[test]
 fn pieces(rt: HostRuntime) {
-    assert_eq!(rt; next_piece(7, b".T."), Ok(Piece::Spelling(Enumeration, 3)));
-    assert_eq!(rt; next_piece(7, b" "), Ok(Piece::Gap(1)));
-    assert_eq!(rt; next_piece(7, b"?"), Err(BadByte(7)));
-    assert_eq!(rt; spells(Int, b"5 "), false);
+    for (text, piece) in PIECES {
+        expect(&rt, next_piece(7, text), piece);
+    }
+    expect(&rt, spells(Int, b"5 "), false);
+}
+
+#[test]
+fn laws_of_tokens_can_be_cited() {
+    reading_laws();
 }
 
 #[test]
@@ -318,7 +240,6 @@ fn tokens_fit_their_text(rt: HostRuntime) -> Result<(), Fail> {
     let text = b"#2147483647 #00120";
     let found = tokens(rt.alloc(), text).ok().ok_or("two names")?;
     tokens_fit(text, &found);
-    reading_laws();
     assert_eq!(rt; found.len(), 2);
     Ok(())
 }

@@ -6,10 +6,14 @@ mod building;
 #[cfg(test)]
 mod lexing;
 #[cfg(test)]
+mod made;
+#[cfg(test)]
 mod measuring;
 #[cfg(test)]
 mod printing;
 #[cfg(test)]
 mod reading;
+#[cfg(test)]
+mod rows;
 #[cfg(test)]
 mod shared;

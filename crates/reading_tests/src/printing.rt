@@ -1,10 +1,11 @@
 //! Exchanges that are printed, and read back.
 
-use crate::shared::{joined, read_text};
+use crate::made::{Kind, part, value, with_param};
+use crate::shared::{expect, joined, read_text};
 use nc_base::{NcText, NoMemory};
 use p21_parse::{Exchange, Instance, InstanceList, Param, ParamList, Part, PartList};
 use p21_print::{print, print_laws};
-use std::alloc::Global;
+use std::alloc::{AllocError, Global};
 use std::process::Abort;
 use std::test::Fail;
 
@@ -46,131 +47,146 @@ const FILES: &[(&[u8], &[u8], &[u8], &[u8])] = &[
     ),
 ];
 
-// A text is read, printed, read back and printed again.
-fn expect_printed(
+// A file with these further entries and instances, as it is written by hand.
+fn written<'a>(
+    alloc: Global,
+    entries: &'a [u8],
+    instances: &'a [u8],
+) -> Result<Vec<u8>, AllocError> {
+    joined(
+        alloc,
+        &[
+            (HEAD, 1),
+            (entries, 1),
+            (MIDDLE, 1),
+            (instances, 1),
+            (TAIL, 1),
+        ],
+    )
+}
+
+// The same as it is printed.
+fn plain<'a>(alloc: Global, entries: &'a [u8], instances: &'a [u8]) -> Result<Vec<u8>, AllocError> {
+    joined(
+        alloc,
+        &[
+            (PRINTED_HEAD, 1),
+            (entries, 1),
+            (PRINTED_MIDDLE, 1),
+            (instances, 1),
+            (PRINTED_TAIL, 1),
+        ],
+    )
+}
+
+// Stops unless what is read of a text is printed so.
+fn expect_printed(rt: &impl Abort, alloc: Global, text: &[u8], plain: &[u8]) -> Result<(), Fail> {
+    let exchange = read_text(rt, alloc, text)?;
+    expect_print(rt, alloc, &exchange, plain)
+}
+
+fn expect_print(
     rt: &impl Abort,
     alloc: Global,
-    written: &[u8],
+    exchange: &Exchange,
     plain: &[u8],
 ) -> Result<(), Fail> {
-    let exchange = read_text(rt, alloc, written)?;
-    let printed = print(alloc, &exchange)?;
-    assert_eq!(rt; printed.as_slice(), plain);
+    let printed = print(alloc, exchange)?;
+    expect(rt, printed.as_slice(), plain);
     Ok(())
 }
 
 #[test]
 fn what_is_read_is_printed_plainly(rt: HostRuntime) -> Result<(), Fail> {
-    let alloc = rt.alloc();
-    print_laws();
     for (entries, printed_entries, instances, printed_instances) in FILES {
-        let written = joined(
-            alloc,
-            &[
-                (HEAD, 1),
-                (*entries, 1),
-                (MIDDLE, 1),
-                (*instances, 1),
-                (TAIL, 1),
-            ],
-        )?;
-        let plain = joined(
-            alloc,
-            &[
-                (PRINTED_HEAD, 1),
-                (*printed_entries, 1),
-                (PRINTED_MIDDLE, 1),
-                (*printed_instances, 1),
-                (PRINTED_TAIL, 1),
-            ],
-        )?;
-        expect_printed(&rt, alloc, written.as_slice(), plain.as_slice())?;
-        expect_printed(&rt, alloc, plain.as_slice(), plain.as_slice())?;
+        let plain = plain(rt.alloc(), *printed_entries, *printed_instances)?;
+        let written = written(rt.alloc(), *entries, *instances)?;
+        for text in [&written, &plain] {
+            expect_printed(&rt, rt.alloc(), text.as_slice(), plain.as_slice())?;
+        }
     }
     Ok(())
 }
 
-fn text(alloc: Global, bytes: &[u8]) -> Result<NcText, NoMemory> {
-    NcText::of(alloc, bytes)
+#[test]
+fn laws_of_printing_can_be_cited() {
+    print_laws();
 }
 
-// `A` with parameters that no text has: an open text, a number of letters, an empty enumeration, and a keyword with two.
+// A keyword with `$` and `*`.
+fn typed(alloc: Global) -> Result<Param, NoMemory> {
+    let mut params = ParamList::new(alloc);
+    params.push(Param::Unset)?;
+    params.push(Param::Derived)?;
+    Ok(Param::Typed(NcText::of(alloc, b"T")?, params))
+}
+
+// Which parameter of those that no text has: an open text, a number of letters, an empty enumeration, a keyword with two, and the number 0.
+fn odd_param(alloc: Global, which: u8) -> Result<Param, NoMemory> {
+    match which {
+        1 => value(alloc, Kind::Text, b"'"),
+        2 => value(alloc, Kind::Int, b"x ;"),
+        3 => value(alloc, Kind::Enumeration, b""),
+        4 => typed(alloc),
+        _ => Ok(Param::Reference(0)),
+    }
+}
+
+// `A` with all of them.
 fn odd_part(alloc: Global) -> Result<Part, NoMemory> {
-    let mut inner = ParamList::new(alloc);
-    inner.push(Param::Unset)?;
-    inner.push(Param::Derived)?;
-    let mut parameters = ParamList::new(alloc);
-    parameters.push(Param::Text(text(alloc, b"'")?))?;
-    parameters.push(Param::Int(text(alloc, b"x ;")?))?;
-    parameters.push(Param::Enumeration(text(alloc, b"")?))?;
-    parameters.push(Param::Typed(text(alloc, b"T")?, inner))?;
-    parameters.push(Param::Reference(0))?;
-    Ok(Part {
-        keyword: text(alloc, b"A")?,
-        parameters,
-    })
+    let mut odd = part(alloc, b"A")?;
+    for which in [1, 2, 3, 4, 5] {
+        odd.parameters.push(odd_param(alloc, which)?)?;
+    }
+    Ok(odd)
+}
+
+fn odd_parts(alloc: Global, count: u32) -> Result<PartList, NoMemory> {
+    let mut parts = PartList::new(alloc);
+    for _ in 0..count {
+        parts.push(odd_part(alloc)?)?;
+    }
+    Ok(parts)
 }
 
 // An instance of number 0 with two parts that are no complex one, and a complex one with no part.
 fn odd_exchange(alloc: Global) -> Result<Exchange, NoMemory> {
-    let mut parts = PartList::new(alloc);
-    parts.push(odd_part(alloc)?)?;
-    parts.push(odd_part(alloc)?)?;
     let mut items = InstanceList::new(alloc);
-    items.push(Instance {
-        number: 0,
-        complex: false,
-        parts,
-    })?;
-    items.push(Instance {
-        number: u32::MAX,
-        complex: true,
-        parts: PartList::new(alloc),
-    })?;
+    for (number, complex, count) in [(0, false, 2), (u32::MAX, true, 0)] {
+        items.push(Instance {
+            number,
+            complex,
+            parts: odd_parts(alloc, count)?,
+        })?;
+    }
     Ok(Exchange {
         head: PartList::new(alloc),
         items,
     })
 }
 
+// What that is printed as.
+const ODD: &[u8] =
+    b"ISO-10303-21;\nHEADER;\nENDSEC;\nDATA;\n#0=A(''',x ;,..,T($,*),#0)A(''',x ;,..,T($,*),#0);\n#4294967295=();\nENDSEC;\nEND-ISO-10303-21;\n";
+
 #[test]
 fn what_no_text_has_is_printed_too(rt: HostRuntime) -> Result<(), Fail> {
-    let alloc = rt.alloc();
-    let printed = print(alloc, &odd_exchange(alloc)?)?;
-    assert_eq!(rt;
-        printed.as_slice(),
-        b"ISO-10303-21;\nHEADER;\nENDSEC;\nDATA;\n#0=A(''',x ;,..,T($,*),#0)A(''',x ;,..,T($,*),#0);\n#4294967295=();\nENDSEC;\nEND-ISO-10303-21;\n".as_slice()
-    );
-    Ok(())
+    expect_print(&rt, rt.alloc(), &odd_exchange(rt.alloc())?, ODD)
 }
 
 // What an exchange is printed as that was made of the instance below.
 const MADE: &[u8] =
     b"ISO-10303-21;\nHEADER;\nFILE_DESCRIPTION((''),'2;1');\nFILE_NAME('','',(''),(''),'','','');\nFILE_SCHEMA((''));\nENDSEC;\nDATA;\n#5=A(#7);\nENDSEC;\nEND-ISO-10303-21;\n";
 
-// An instance that refers to another, which need not be there.
-fn referring(alloc: Global) -> Result<Instance, NoMemory> {
-    let mut parameters = ParamList::new(alloc);
-    parameters.push(Param::Reference(7))?;
-    let mut parts = PartList::new(alloc);
-    parts.push(Part {
-        keyword: text(alloc, b"A")?,
-        parameters,
-    })?;
-    Ok(Instance {
-        number: 5,
-        complex: false,
-        parts,
-    })
+// An exchange of an instance that refers to another, which need not be there.
+fn made(alloc: Global) -> Result<Exchange, Fail> {
+    let mut items = InstanceList::new(alloc);
+    items.push(with_param(alloc, 5, Param::Reference(7))?)?;
+    Ok(Exchange::of(alloc, items)?)
 }
 
 #[test]
 fn what_is_made_of_instances_is_printed_and_read_back(rt: HostRuntime) -> Result<(), Fail> {
-    let alloc = rt.alloc();
-    let mut items = InstanceList::new(alloc);
-    items.push(referring(alloc)?)?;
-    let made = Exchange::of(alloc, items)?;
-    let printed = print(alloc, &made)?;
-    assert_eq!(rt; printed.as_slice(), MADE);
-    expect_printed(&rt, alloc, printed.as_slice(), MADE)
+    expect_print(&rt, rt.alloc(), &made(rt.alloc())?, MADE)?;
+    expect_printed(&rt, rt.alloc(), MADE, MADE)
 }

@@ -1,12 +1,14 @@
 //! Texts that are read as exchanges, or refused.
 
-use crate::shared::{HEAD, TAIL, joined, read_text};
-use ReadErr::{Duplicate, Lex, Syntax, TooDeep, TooMany};
-use p21_lex::LexErr::{BadByte, BadName, NumberTooLong, OpenString};
+use crate::rows::{bytes_of, number, row};
+use crate::shared::{HEAD, TAIL, expect, joined, read_text};
+use ReadErr::{Duplicate, TooMany};
+use nc_base::NoMemory;
 use p21_parse::{
-    Instance, MAX_INSTANCES, Param, ParamList, ReadErr, grammar_laws, instance_laws, text_laws,
+    Instance, MAX_INSTANCES, Param, ParamList, Part, ReadErr, grammar_laws, instance_laws,
+    text_laws,
 };
-use std::alloc::Global;
+use std::alloc::{AllocError, Global};
 use std::process::Abort;
 use std::test::Fail;
 
@@ -35,292 +37,105 @@ const PLATE: &[u8] =
 const KINDS: &[u8] =
     b"#7 = A ( * , \"0F\" , 'it''s' ) ;\n#8=A(.B_1.,!C(5.),#008);\n#9=A($,-1,((),2));\n";
 
-// Instances behind the 139 bytes of a head, and why the file is refused, if it is.
-const INSTANCES: &[(&[u8], Option<ReadErr>)] = &[
-    (b"", None),
-    (b"#2147483647=A();\n#1=A('''',#1);\n", None),
-    (b"#5=!A(!B(1));\n", None),
-    (b"#5=(A());\n", None),
-    (b"#5=A(+12345678901234567890123456789012345678);\n", None),
-    (b"#5=A(#5,'#5=');\n#6=A(#5);\n", None),
-    // Tokens.
-    (
-        b"#5=A(123456789012345678901234567890123456789);\n",
-        Some(Lex(NumberTooLong(144))),
-    ),
-    (b"#0=A();\n", Some(Lex(BadName(139)))),
-    (b"#2147483648=A();\n", Some(Lex(BadName(139)))),
-    (b"#5=A(a);\n", Some(Lex(BadByte(144)))),
-    (b"#5=A('a\x01');\n", Some(Lex(BadByte(146)))),
-    (b"#5=;\n#5=A(.5);\n", Some(Lex(BadByte(149)))),
-    (b"#5=A();\n#5=A();\n#0=A();\n", Some(Lex(BadName(155)))),
-    // Instances.
-    (b"A();\n", Some(Syntax(139))),
-    (b"#5 A();\n", Some(Syntax(142))),
-    (b"#5=;\n", Some(Syntax(142))),
-    (b"#5=#6();\n", Some(Syntax(142))),
-    (b"#5=A-B();\n", Some(Syntax(142))),
-    (b"#5=!A-5();\n", Some(Syntax(144))),
-    (b"#5=A;\n", Some(Syntax(143))),
-    (b"#5=A()\n", Some(Syntax(146))),
-    (b"#5=A()B();\n", Some(Syntax(145))),
-    (b"#5=();\n", Some(Syntax(143))),
-    (b"#5=(A(),B());\n", Some(Syntax(146))),
-    (b"#5=((A()));\n", Some(Syntax(143))),
-    (b"#5=(A();\n", Some(Syntax(146))),
-    // Parameters.
-    (b"#5=A(1,);\n", Some(Syntax(146))),
-    (b"#5=A(,1);\n", Some(Syntax(144))),
-    (b"#5=A(1 2);\n", Some(Syntax(146))),
-    (b"#5=A(1;\n", Some(Syntax(145))),
-    (b"#5=A((1);\n", Some(Syntax(147))),
-    (b"#5=A(=);\n", Some(Syntax(144))),
-    (b"#5=A(B-C);\n", Some(Syntax(144))),
-    (b"#5=A(!B);\n", Some(Syntax(146))),
-    (b"#5=A(B());\n", Some(Syntax(146))),
-    (b"#5=A(B(1,2));\n", Some(Syntax(147))),
-    // Numbers that come twice, before or behind another fault.
-    (b"#72=A();\n#72=A();\n", Some(Duplicate(72))),
-    (b"#72=A();\n#73=(A());\n#0072=B();\n", Some(Duplicate(72))),
-    (b"#5=A();\n#6=A();\n#6=A();\n#5=A();\n", Some(Duplicate(6))),
-    (b"#5=A();\n#5 A();\n", Some(Duplicate(5))),
-    (b"#5=A();\n#5=;\n", Some(Duplicate(5))),
-    (b"#5=;\n#5=A();\n", Some(Syntax(142))),
-    (b"#5=A()#5=A();\n", Some(Syntax(145))),
-];
+/// In each row instances behind the 139 bytes of a head, and why the file is refused, or nothing. The rows are, in this order: files that
+/// are read; faults of tokens, of instances and of parameters; and numbers that come twice, before or behind another fault.
+const INSTANCES: &str = "|\n\
+    #2147483647=A();¶#1=A('''',#1);¶|\n\
+    #5=!A(!B(1));¶|\n\
+    #5=(A());¶|\n\
+    #5=A(+12345678901234567890123456789012345678);¶|\n\
+    #5=A(#5,'#5=');¶#6=A(#5);¶|\n\
+    #5=A(123456789012345678901234567890123456789);¶|Lex(NumberTooLong(144))\n\
+    #0=A();¶|Lex(BadName(139))\n\
+    #2147483648=A();¶|Lex(BadName(139))\n\
+    #5=A(a);¶|Lex(BadByte(144))\n\
+    #5=A('a\x01');¶|Lex(BadByte(146))\n\
+    #5=;¶#5=A(.5);¶|Lex(BadByte(149))\n\
+    #5=A();¶#5=A();¶#0=A();¶|Lex(BadName(155))\n\
+    A();¶|Syntax(139)\n\
+    #5 A();¶|Syntax(142)\n\
+    #5=;¶|Syntax(142)\n\
+    #5=#6();¶|Syntax(142)\n\
+    #5=A-B();¶|Syntax(142)\n\
+    #5=!A-5();¶|Syntax(144)\n\
+    #5=A;¶|Syntax(143)\n\
+    #5=A()¶|Syntax(146)\n\
+    #5=A()B();¶|Syntax(145)\n\
+    #5=();¶|Syntax(143)\n\
+    #5=(A(),B());¶|Syntax(146)\n\
+    #5=((A()));¶|Syntax(143)\n\
+    #5=(A();¶|Syntax(146)\n\
+    #5=A(1,);¶|Syntax(146)\n\
+    #5=A(,1);¶|Syntax(144)\n\
+    #5=A(1 2);¶|Syntax(146)\n\
+    #5=A(1;¶|Syntax(145)\n\
+    #5=A((1);¶|Syntax(147)\n\
+    #5=A(=);¶|Syntax(144)\n\
+    #5=A(B-C);¶|Syntax(144)\n\
+    #5=A(!B);¶|Syntax(146)\n\
+    #5=A(B());¶|Syntax(146)\n\
+    #5=A(B(1,2));¶|Syntax(147)\n\
+    #72=A();¶#72=A();¶|Duplicate(72)\n\
+    #72=A();¶#73=(A());¶#0072=B();¶|Duplicate(72)\n\
+    #5=A();¶#6=A();¶#6=A();¶#5=A();¶|Duplicate(6)\n\
+    #5=A();¶#5 A();¶|Duplicate(5)\n\
+    #5=A();¶#5=;¶|Duplicate(5)\n\
+    #5=;¶#5=A();¶|Syntax(142)\n\
+    #5=A()#5=A();¶|Syntax(145)\n";
 
-// Texts in pieces, each so many times, and why they are refused, if they are.
-type Row<'a> = (&'a [(&'a [u8], u32)], Option<ReadErr>);
+// In each row the parts of a text, between `+`, and why it is refused, or nothing. `@` names a text, and `×32` says that the part stands
+// there 32 times.
 
-const HEADERS: &[Row<'static>] = &[
-    (&[], Some(Syntax(0))),
-    (&[(b" ", 9), (b"/* */", 1)], Some(Syntax(14))),
-    (&[(b"HEADER;", 1)], Some(Syntax(0))),
-    (&[(b"ISO-10303-21", 1)], Some(Syntax(12))),
-    (
-        &[(TOP, 1), (b"FILE_DESCRIPTION(('AB", 1)],
-        Some(Lex(OpenString(40))),
-    ),
-    (&[(TOP, 1), (b"FILE_NAME('','');\n", 1)], Some(Syntax(22))),
-    (
-        &[(TOP, 1), (b"FILE_DESCRIPTION((''));\n", 1)],
-        Some(Syntax(43)),
-    ),
-    (
-        &[(TOP, 1), (b"FILE_DESCRIPTION('','','');\n", 1)],
-        Some(Syntax(44)),
-    ),
-    (&[(DESCRIBED, 1)], Some(Syntax(52))),
-    // Six and eight parameters.
-    (
-        &[(DESCRIBED, 1), (b"FILE_NAME('A','',(''),(''),'','');\n", 1)],
-        Some(Syntax(84)),
-    ),
-    (
-        &[
-            (DESCRIBED, 1),
-            (b"FILE_NAME('A','',(''),(''),'','','','');\n", 1),
-        ],
-        Some(Syntax(87)),
-    ),
-    // Schemas.
-    (&[(NAMED, 1), (b"FILE_SCHEMA();\n", 1)], Some(Syntax(102))),
-    (&[(NAMED, 1), (b"FILE_SCHEMA(());\n", 1)], Some(Syntax(103))),
-    (
-        &[(NAMED, 1), (b"FILE_SCHEMA((1));\n", 1)],
-        Some(Syntax(103)),
-    ),
-    (
-        &[(NAMED, 1), (b"FILE_SCHEMA('M');\n", 1)],
-        Some(Syntax(102)),
-    ),
-    (
-        &[(NAMED, 1), (b"FILE_SCHEMA(('M',));\n", 1)],
-        Some(Syntax(107)),
-    ),
-    (
-        &[(NAMED, 1), (b"FILE_SCHEMA(('M'),1);\n", 1)],
-        Some(Syntax(107)),
-    ),
-    // Further entries.
-    (
-        &[(HEADED, 1), (b"ENDSEC(1);\n", 2), (DATA, 1), (TAIL, 1)],
-        None,
-    ),
-    (
-        &[
-            (HEADED, 1),
-            (b"DATA(1,());!X(A(*));", 1),
-            (DATA, 1),
-            (TAIL, 1),
-        ],
-        None,
-    ),
-    (&[(HEADED, 1), (b"EXTRA();\n", 1)], Some(Syntax(131))),
-    (&[(HEADED, 1), (b"ENDSEC();\n", 1)], Some(Syntax(132))),
-    (&[(HEADED, 1), (b"ENDSEC X", 1)], Some(Syntax(132))),
-    (&[(HEADED, 1), (b"A-B(1);\n", 1)], Some(Syntax(125))),
-    (
-        &[(HEADED, 1), (b"ENDSEC;\nDATA(1);\n", 1)],
-        Some(Syntax(137)),
-    ),
-    // Ends.
-    (&[(HEAD, 1)], Some(Syntax(139))),
-    (&[(HEAD, 1), (b"END-ISO-10303-21;", 1)], Some(Syntax(139))),
-    (&[(HEAD, 1), (b"ENDSEC;\n", 1)], Some(Syntax(147))),
-    (
-        &[(HEAD, 1), (b"ENDSEC;\nEND-ISO-10303-21", 1)],
-        Some(Syntax(163)),
-    ),
-    (
-        &[(HEAD, 1), (TAIL, 1), (b"#5=A();\n", 1)],
-        Some(Syntax(165)),
-    ),
-    (&[(HEAD, 1), (TAIL, 1), (b";", 1)], Some(Syntax(165))),
-    (
-        &[(b" /* */ ", 1), (HEAD, 1), (TAIL, 1), (b"/* */\n", 2)],
-        None,
-    ),
-    (&[(HEAD, 1), (b"#5=A();\n#6=A(", 1)], Some(Syntax(152))),
-    // A text that ends with the number that comes twice.
-    (&[(HEAD, 1), (b"#5=A();\n#5", 1)], Some(Duplicate(5))),
-];
+/// Headers, their schemas and further entries, ends of files, and a text that ends with the number that comes twice.
+const HEADERS: &str = "|Syntax(0)\n\
+    \x20×9+/* */|Syntax(14)\n\
+    HEADER;|Syntax(0)\n\
+    ISO-10303-21|Syntax(12)\n\
+    @TOP+FILE_DESCRIPTION(('AB|Lex(OpenString(40))\n\
+    @TOP+FILE_NAME('','');¶|Syntax(22)\n\
+    @TOP+FILE_DESCRIPTION((''));¶|Syntax(43)\n\
+    @TOP+FILE_DESCRIPTION('','','');¶|Syntax(44)\n\
+    @DESCRIBED|Syntax(52)\n\
+    @DESCRIBED+FILE_NAME('A','',(''),(''),'','');¶|Syntax(84)\n\
+    @DESCRIBED+FILE_NAME('A','',(''),(''),'','','','');¶|Syntax(87)\n\
+    @NAMED+FILE_SCHEMA();¶|Syntax(102)\n\
+    @NAMED+FILE_SCHEMA(());¶|Syntax(103)\n\
+    @NAMED+FILE_SCHEMA((1));¶|Syntax(103)\n\
+    @NAMED+FILE_SCHEMA('M');¶|Syntax(102)\n\
+    @NAMED+FILE_SCHEMA(('M',));¶|Syntax(107)\n\
+    @NAMED+FILE_SCHEMA(('M'),1);¶|Syntax(107)\n\
+    @HEADED+ENDSEC(1);¶×2+@DATA+@TAIL|\n\
+    @HEADED+DATA(1,());!X(A(*));+@DATA+@TAIL|\n\
+    @HEADED+EXTRA();¶|Syntax(131)\n\
+    @HEADED+ENDSEC();¶|Syntax(132)\n\
+    @HEADED+ENDSEC X|Syntax(132)\n\
+    @HEADED+A-B(1);¶|Syntax(125)\n\
+    @HEADED+ENDSEC;¶DATA(1);¶|Syntax(137)\n\
+    @HEAD|Syntax(139)\n\
+    @HEAD+END-ISO-10303-21;|Syntax(139)\n\
+    @HEAD+ENDSEC;¶|Syntax(147)\n\
+    @HEAD+ENDSEC;¶END-ISO-10303-21|Syntax(163)\n\
+    @HEAD+@TAIL+#5=A();¶|Syntax(165)\n\
+    @HEAD+@TAIL+;|Syntax(165)\n\
+    \x20/* */ +@HEAD+@TAIL+/* */¶×2|\n\
+    @HEAD+#5=A();¶#6=A(|Syntax(152)\n\
+    @HEAD+#5=A();¶#5|Duplicate(5)\n";
 
-const NESTED: &[Row<'static>] = &[
-    // Lists.
-    (
-        &[
-            (HEAD, 1),
-            (b"#5=A", 1),
-            (b"(", 32),
-            (b")", 32),
-            (b";", 1),
-            (TAIL, 1),
-        ],
-        None,
-    ),
-    (
-        &[
-            (HEAD, 1),
-            (b"#5=A", 1),
-            (b"(", 33),
-            (b")", 33),
-            (b";", 1),
-            (TAIL, 1),
-        ],
-        Some(TooDeep(175)),
-    ),
-    (&[(HEAD, 1), (b"#5=A", 1), (b"(", 32)], Some(Syntax(175))),
-    (
-        &[
-            (HEAD, 1),
-            (b"#5=A(", 1),
-            (b"(),", 40),
-            (b"1);", 1),
-            (TAIL, 1),
-        ],
-        None,
-    ),
-    // Typed parameters.
-    (
-        &[
-            (HEAD, 1),
-            (b"#5=A(", 1),
-            (b"B(", 31),
-            (b"1", 1),
-            (b")", 32),
-            (b";", 1),
-            (TAIL, 1),
-        ],
-        None,
-    ),
-    (
-        &[
-            (HEAD, 1),
-            (b"#5=A(", 1),
-            (b"B(", 32),
-            (b"1", 1),
-            (b")", 33),
-            (b";", 1),
-            (TAIL, 1),
-        ],
-        Some(TooDeep(207)),
-    ),
-    (
-        &[(HEAD, 1), (b"#5=A(", 1), (b"B(", 31), (b"B", 1), (b")", 32)],
-        Some(Syntax(207)),
-    ),
-    // Complex instances.
-    (
-        &[
-            (HEAD, 1),
-            (b"#5=(A()B", 1),
-            (b"(", 32),
-            (b")", 33),
-            (b";", 1),
-            (TAIL, 1),
-        ],
-        None,
-    ),
-    (
-        &[
-            (HEAD, 1),
-            (b"#5=(A()B", 1),
-            (b"(", 33),
-            (b")", 34),
-            (b";", 1),
-            (TAIL, 1),
-        ],
-        Some(TooDeep(179)),
-    ),
-    // The header.
-    (
-        &[
-            (HEADED, 1),
-            (b"E", 1),
-            (b"(", 32),
-            (b"1", 1),
-            (b")", 32),
-            (b";", 1),
-            (DATA, 1),
-            (TAIL, 1),
-        ],
-        None,
-    ),
-    (
-        &[
-            (HEADED, 1),
-            (b"E", 1),
-            (b"(", 33),
-            (b"1", 1),
-            (b")", 33),
-            (b";", 1),
-            (DATA, 1),
-            (TAIL, 1),
-        ],
-        Some(TooDeep(158)),
-    ),
-    (
-        &[(TOP, 1), (b"FILE_DESCRIPTION", 1), (b"(", 33)],
-        Some(TooDeep(70)),
-    ),
-    // Beside a number that comes twice.
-    (
-        &[(HEAD, 1), (b"#5=A();\n", 2), (b"#6=A", 1), (b"(", 33)],
-        Some(Duplicate(5)),
-    ),
-    (
-        &[
-            (HEAD, 1),
-            (b"#5=A", 1),
-            (b"(", 33),
-            (b")", 33),
-            (b";\n#5=A();\n", 1),
-            (TAIL, 1),
-        ],
-        Some(TooDeep(175)),
-    ),
-];
+/// Lists, typed parameters and complex instances in one another, the same in the header, and beside a number that comes twice.
+const NESTED: &str = "@HEAD+#5=A+(×32+)×32+;+@TAIL|\n\
+    @HEAD+#5=A+(×33+)×33+;+@TAIL|TooDeep(175)\n\
+    @HEAD+#5=A+(×32|Syntax(175)\n\
+    @HEAD+#5=A(+(),×40+1);+@TAIL|\n\
+    @HEAD+#5=A(+B(×31+1+)×32+;+@TAIL|\n\
+    @HEAD+#5=A(+B(×32+1+)×33+;+@TAIL|TooDeep(207)\n\
+    @HEAD+#5=A(+B(×31+B+)×32|Syntax(207)\n\
+    @HEAD+#5=(A()B+(×32+)×33+;+@TAIL|\n\
+    @HEAD+#5=(A()B+(×33+)×34+;+@TAIL|TooDeep(179)\n\
+    @HEADED+E+(×32+1+)×32+;+@DATA+@TAIL|\n\
+    @HEADED+E+(×33+1+)×33+;+@DATA+@TAIL|TooDeep(158)\n\
+    @TOP+FILE_DESCRIPTION+(×33|TooDeep(70)\n\
+    @HEAD+#5=A();¶×2+#6=A+(×33|Duplicate(5)\n\
+    @HEAD+#5=A+(×33+)×33+;¶#5=A();¶+@TAIL|TooDeep(175)\n";
 
 // What follows instances 1 to 199,999, whose numbers go from 100,001 on and which take 12 bytes each, and why the file is refused, if it is.
 const LAST: &[(&[u8], Option<ReadErr>)] = &[
@@ -330,16 +145,27 @@ const LAST: &[(&[u8], Option<ReadErr>)] = &[
     (b"#300000=A();#100001=A();", Some(TooMany(2_400_139))),
 ];
 
+// Puts an instance of this number.
+fn put_instance(alloc: Global, text: &mut Vec<u8>, number: u32) -> Result<(), AllocError> {
+    let line = format!(in alloc; "#{number}=A();")?;
+    text.extend_from_slice(line.as_bytes())
+}
+
 // Instances of these numbers, which go from one on by a step.
-fn stepped(alloc: Global, first: u32, step: u32, count: u32) -> Result<Vec<u8>, Fail> {
+fn stepped(alloc: Global, first: u32, step: u32, count: u32) -> Result<Vec<u8>, AllocError> {
     let mut text = Vec::new(alloc);
     let mut number = first;
     for _ in 0..count {
-        let line = format!(in alloc; "#{number}=A();")?;
-        text.extend_from_slice(line.as_bytes())?;
+        put_instance(alloc, &mut text, number)?;
         number = number.wrapping_add(step);
     }
     Ok(text)
+}
+
+// How many entries of the header and how many instances a text has, or why it is refused.
+fn sizes_of(rt: &impl Abort, alloc: Global, text: &[u8]) -> Result<(u32, u32), ReadErr> {
+    let exchange = read_text(rt, alloc, text)?;
+    Ok((exchange.head.len(), exchange.items.len()))
 }
 
 fn expect_refusal(
@@ -349,63 +175,129 @@ fn expect_refusal(
     want: Option<ReadErr>,
 ) -> Result<(), Fail> {
     let text = joined(alloc, pieces)?;
-    let answer = read_text(rt, alloc, text.as_slice());
-    assert_eq!(rt; answer.err(), want, "of {} bytes", text.len());
+    let refusal = sizes_of(rt, alloc, text.as_slice()).err();
+    assert_eq!(rt; refusal, want, "of {} bytes", text.len());
+    Ok(())
+}
+
+// Why a text is refused, or nothing.
+fn shown(rt: &impl Abort, alloc: Global, text: &[u8]) -> Result<String, AllocError> {
+    match sizes_of(rt, alloc, text) {
+        Ok(_) => Ok(String::new(alloc)),
+        Err(refusal) => format!(in alloc; "{refusal:?}"),
+    }
+}
+
+fn expect_instances(rt: &impl Abort, alloc: Global, line: &str) -> Result<(), Fail> {
+    let (instances, want) = row(line);
+    let instances = bytes_of(alloc, instances)?;
+    let text = joined(alloc, &[(HEAD, 1), (&instances, 1), (TAIL, 1)])?;
+    let found = shown(rt, alloc, text.as_slice())?;
+    assert_eq!(rt; found.as_str(), want, "of {line}");
+    Ok(())
+}
+
+#[test]
+fn instances_are_read_or_refused_at_their_place(rt: HostRuntime) -> Result<(), Fail> {
+    for line in INSTANCES.lines() {
+        expect_instances(&rt, rt.alloc(), line)?;
+    }
+    Ok(())
+}
+
+// The bytes of a part.
+fn part_bytes(alloc: Global, part: &str) -> Result<Vec<u8>, AllocError> {
+    match part {
+        "@TOP" => Vec::from_slice(alloc, TOP),
+        "@DESCRIBED" => Vec::from_slice(alloc, DESCRIBED),
+        "@NAMED" => Vec::from_slice(alloc, NAMED),
+        "@HEADED" => Vec::from_slice(alloc, HEADED),
+        "@DATA" => Vec::from_slice(alloc, DATA),
+        "@HEAD" => Vec::from_slice(alloc, HEAD),
+        "@TAIL" => Vec::from_slice(alloc, TAIL),
+        _ => bytes_of(alloc, part),
+    }
+}
+
+fn put_part(alloc: Global, text: &mut Vec<u8>, part: &str) -> Result<(), AllocError> {
+    let (part, times) = part.split_once('×').unwrap_or((part, "1"));
+    let bytes = part_bytes(alloc, part)?;
+    for _ in 0..number(times) {
+        text.extend_from_slice(&bytes)?;
+    }
+    Ok(())
+}
+
+fn text_of(alloc: Global, parts: &str) -> Result<Vec<u8>, AllocError> {
+    let mut text = Vec::new(alloc);
+    for part in parts.split('+') {
+        put_part(alloc, &mut text, part)?;
+    }
+    Ok(text)
+}
+
+fn expect_parts(rt: &impl Abort, alloc: Global, line: &str) -> Result<(), Fail> {
+    let (parts, want) = row(line);
+    let text = text_of(alloc, parts)?;
+    let found = shown(rt, alloc, text.as_slice())?;
+    assert_eq!(rt; found.as_str(), want, "of {line}");
     Ok(())
 }
 
 #[test]
 fn files_are_read_or_refused_at_their_place(rt: HostRuntime) -> Result<(), Fail> {
-    for (instances, refusal) in INSTANCES {
-        expect_refusal(
-            &rt,
-            rt.alloc(),
-            &[(HEAD, 1), (*instances, 1), (TAIL, 1)],
-            *refusal,
-        )?;
-    }
-    for rows in [HEADERS, NESTED] {
-        for (pieces, refusal) in rows {
-            expect_refusal(&rt, rt.alloc(), *pieces, *refusal)?;
+    for table in [HEADERS, NESTED] {
+        for line in table.lines() {
+            expect_parts(&rt, rt.alloc(), line)?;
         }
     }
     Ok(())
+}
+
+// Stops unless a file of these instances and those behind them is refused so, or read.
+fn expect_behind<'a>(
+    rt: &impl Abort,
+    alloc: Global,
+    front: &'a [u8],
+    last: &'a [u8],
+    want: Option<ReadErr>,
+) -> Result<(), Fail> {
+    expect_refusal(
+        rt,
+        alloc,
+        &[(HEAD, 1), (front, 1), (last, 1), (TAIL, 1)],
+        want,
+    )
 }
 
 #[test]
 fn files_have_at_most_200_000_instances(rt: HostRuntime) -> Result<(), Fail> {
     let front = stepped(rt.alloc(), 100_001, 1, MAX_INSTANCES as u32 - 1)?;
     for (last, refusal) in LAST {
-        expect_refusal(
-            &rt,
-            rt.alloc(),
-            &[(HEAD, 1), (&front, 1), (*last, 1), (TAIL, 1)],
-            *refusal,
-        )?;
+        expect_behind(&rt, rt.alloc(), &front, *last, *refusal)?;
     }
     Ok(())
 }
 
-fn expect_count(
+fn expect_sizes(
     rt: &impl Abort,
     alloc: Global,
     pieces: &[(&[u8], u32)],
-    want: u32,
+    want: (u32, u32),
 ) -> Result<(), Fail> {
     let text = joined(alloc, pieces)?;
-    let exchange = read_text(rt, alloc, text.as_slice())?;
-    assert_eq!(rt; exchange.items.len(), want);
+    expect(rt, sizes_of(rt, alloc, text.as_slice()), Ok(want));
     Ok(())
 }
 
 #[test]
 fn files_of_200_000_instances_have_them_all(rt: HostRuntime) -> Result<(), Fail> {
     let front = stepped(rt.alloc(), 100_001, 1, MAX_INSTANCES as u32 - 1)?;
-    expect_count(
+    expect_sizes(
         &rt,
         rt.alloc(),
         &[(HEAD, 1), (&front, 1), (b"#300000=A();", 1), (TAIL, 1)],
-        MAX_INSTANCES as u32,
+        (3, MAX_INSTANCES as u32),
     )
 }
 
@@ -415,42 +307,37 @@ const COLLIDING: u32 = 199_900;
 
 const STEP: u32 = 8192;
 
+// Whether such numbers are read, and refused where the first stands a second time at the end.
+fn expect_stepped(
+    rt: &impl Abort,
+    alloc: Global,
+    first: u32,
+    step: u32,
+    again: &[u8],
+) -> Result<(), Fail> {
+    let front = stepped(alloc, first, step, COLLIDING)?;
+    expect_behind(rt, alloc, &front, b"", None)?;
+    expect_behind(rt, alloc, &front, again, Some(Duplicate(first)))
+}
+
 #[test]
 fn numbers_that_rise_by_a_step_are_read(rt: HostRuntime) -> Result<(), Fail> {
-    let front = stepped(rt.alloc(), STEP, STEP, COLLIDING)?;
-    expect_refusal(&rt, rt.alloc(), &[(HEAD, 1), (&front, 1), (TAIL, 1)], None)?;
-    expect_refusal(
-        &rt,
-        rt.alloc(),
-        &[(HEAD, 1), (&front, 1), (b"#8192=A();", 1), (TAIL, 1)],
-        Some(Duplicate(8192)),
-    )
+    expect_stepped(&rt, rt.alloc(), STEP, STEP, b"#8192=A();")
 }
 
 #[test]
 fn numbers_that_fall_by_a_step_are_read(rt: HostRuntime) -> Result<(), Fail> {
-    let front = stepped(
-        rt.alloc(),
-        COLLIDING * STEP,
-        0u32.wrapping_sub(STEP),
-        COLLIDING,
-    )?;
-    expect_refusal(&rt, rt.alloc(), &[(HEAD, 1), (&front, 1), (TAIL, 1)], None)?;
-    expect_refusal(
-        &rt,
-        rt.alloc(),
-        &[(HEAD, 1), (&front, 1), (b"#1637580800=A();", 1), (TAIL, 1)],
-        Some(Duplicate(1_637_580_800)),
-    )
+    let first = COLLIDING * STEP;
+    let step = 0u32.wrapping_sub(STEP);
+    expect_stepped(&rt, rt.alloc(), first, step, b"#1637580800=A();")
 }
 
-// Instances of which the number at one index stands once more at another, and a fault behind them.
-fn with_repeat(alloc: Global, first: u32, again: u32) -> Result<Vec<u8>, Fail> {
+// Instances of which the number at one index stands once more at another.
+fn with_repeat(alloc: Global, first: u32, again: u32) -> Result<Vec<u8>, AllocError> {
     let mut text = Vec::new(alloc);
     for i in 0..SMALL {
         let number = (if i == again { first } else { i }).wrapping_add(100);
-        let line = format!(in alloc; "#{number}=A();")?;
-        text.extend_from_slice(line.as_bytes())?;
+        put_instance(alloc, &mut text, number)?;
     }
     Ok(text)
 }
@@ -474,51 +361,67 @@ fn a_number_is_found_wherever_it_stands_again(rt: HostRuntime) -> Result<(), Fai
 }
 
 #[test]
-fn instances_are_read(rt: HostRuntime) -> Result<(), Fail> {
-    let hole = read_text(&rt, rt.alloc(), DRILLED_HOLE)?;
-    assert_eq!(rt; hole.head.len(), 3);
-    assert_eq!(rt; hole.items.len(), 17);
-    let plate = read_text(&rt, rt.alloc(), PLATE)?;
-    assert_eq!(rt; plate.head.len(), 3);
-    assert_eq!(rt; plate.items.len(), 59);
-    let [_, plan, _, _, context, ..] = plate.items.as_slice() else {
-        panic!(rt; "no plan")
-    };
-    assert_eq!(rt; plan.number, 2);
-    assert!(rt; !plan.complex);
-    let [part] = plan.parts.as_slice() else {
-        panic!(rt; "not one part")
-    };
-    assert_eq!(rt; part.keyword.bytes(), b"WORKPLAN".as_slice());
+fn files_have_their_entries_and_instances(rt: HostRuntime) -> Result<(), Fail> {
+    for (text, instances) in [(DRILLED_HOLE, 17), (PLATE, 59)] {
+        expect_sizes(&rt, rt.alloc(), &[(text, 1)], (3, instances))?;
+    }
+    Ok(())
+}
+
+fn is_keyword(part: &Part, keyword: &[u8]) -> bool {
+    part.keyword.bytes() == keyword
+}
+
+// Four elements, of which the last is #13.
+fn are_elements(params: &[Param]) -> bool {
+    matches!(params, [_, _, _, Param::Reference(13)])
+}
+
+fn are_of_plan(params: &[Param]) -> bool {
     let [
         Param::Text(text),
         Param::List(steps),
         Param::Unset,
         Param::Reference(8),
         Param::Unset,
-    ] = part.parameters.as_slice()
+    ] = params
     else {
-        panic!(rt; "other parameters")
+        return false;
     };
-    assert_eq!(rt; text.bytes(), b"MAIN WORKPLAN".as_slice());
-    assert_eq!(rt; steps.len(), 4);
-    let [_, _, _, Param::Reference(13)] = steps.as_slice() else {
-        panic!(rt; "other steps")
+    text.bytes() == b"MAIN WORKPLAN".as_slice() && are_elements(steps.as_slice())
+}
+
+// The main workplan of the plate.
+fn is_plan(item: &Instance) -> bool {
+    let [part] = item.parts.as_slice() else {
+        return false;
     };
-    assert_eq!(rt; context.number, 9);
-    assert!(rt; context.complex);
-    let [first, second] = context.parts.as_slice() else {
-        panic!(rt; "not two parts")
+    item.number == 2
+        && !item.complex
+        && is_keyword(part, b"WORKPLAN")
+        && are_of_plan(part.parameters.as_slice())
+}
+
+// Its complex instance.
+fn is_context(item: &Instance) -> bool {
+    let [first, second] = item.parts.as_slice() else {
+        return false;
     };
-    assert_eq!(rt;
-        first.keyword.bytes(),
-        b"GEOMETRIC_REPRESENTATION_CONTEXT".as_slice()
-    );
-    assert_eq!(rt;
-        second.keyword.bytes(),
-        b"REPRESENTATION_CONTEXT".as_slice()
-    );
-    assert_eq!(rt; second.parameters.len(), 2);
+    item.number == 9
+        && item.complex
+        && is_keyword(first, b"GEOMETRIC_REPRESENTATION_CONTEXT")
+        && is_keyword(second, b"REPRESENTATION_CONTEXT")
+        && second.parameters.len() == 2
+}
+
+#[test]
+fn instances_are_read(rt: HostRuntime) -> Result<(), Fail> {
+    let plate = read_text(&rt, rt.alloc(), PLATE)?;
+    let [_, plan, _, _, context, ..] = plate.items.as_slice() else {
+        panic!(rt; "fewer than five instances")
+    };
+    assert!(rt; is_plan(plan));
+    assert!(rt; is_context(context));
     Ok(())
 }
 
@@ -585,19 +488,39 @@ fn parameters_of_each_kind_are_read(rt: HostRuntime) -> Result<(), Fail> {
     Ok(())
 }
 
-#[test]
-fn lists_of_parameters_grow_and_shrink(rt: HostRuntime) -> Result<(), Fail> {
-    let mut params = ParamList::new(rt.alloc());
-    assert!(rt; params.is_empty());
+// A reference and a derived value.
+fn two(alloc: Global) -> Result<ParamList, NoMemory> {
+    let mut params = ParamList::new(alloc);
     params.push(Param::Reference(7))?;
     params.push(Param::Derived)?;
+    Ok(params)
+}
+
+// Which of them a parameter is.
+fn which(param: &Option<Param>) -> &'static str {
+    match param {
+        Some(Param::Derived) => "*",
+        Some(Param::Reference(7)) => "#7",
+        Some(_) => "another",
+        None => "none",
+    }
+}
+
+#[test]
+fn lists_of_parameters_grow_and_shrink(rt: HostRuntime) -> Result<(), Fail> {
+    expect(&rt, ParamList::new(rt.alloc()).is_empty(), true);
+    let mut params = two(rt.alloc())?;
     assert_eq!(rt; params.len(), 2);
     assert!(rt; matches!(params.at(1), Param::Derived));
-    assert!(rt; matches!(params.pop(), Some(Param::Derived)));
-    assert!(rt; matches!(params.pop(), Some(Param::Reference(7))));
-    assert!(rt; params.pop().is_none());
+    for want in ["*", "#7", "none"] {
+        expect(&rt, which(&params.pop()), want);
+    }
+    Ok(())
+}
+
+#[test]
+fn laws_of_exchanges_can_be_cited() {
     grammar_laws();
     instance_laws();
     text_laws();
-    Ok(())
 }

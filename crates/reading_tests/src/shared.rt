@@ -3,6 +3,7 @@
 use p21_lex::MAX_TEXT;
 use p21_parse::{Exchange, ReadErr, read};
 use std::alloc::{AllocError, Global};
+use std::fmt::Debug;
 use std::process::Abort;
 
 // The lines round the instances of a file: 139 bytes before them.
@@ -22,8 +23,13 @@ pub fn joined(alloc: Global, pieces: &[(&[u8], u32)]) -> Result<Vec<u8>, AllocEr
     Ok(text)
 }
 
-/// What a text holds, or why it is refused.
+/// What a text holds, or why it is refused. It promises nothing, so that its callers are proved without what `read` promises.
 pub fn read_text(rt: &impl Abort, alloc: Global, text: &[u8]) -> Result<Exchange, ReadErr> {
     assert!(rt; text.len() <= MAX_TEXT as usize);
     read(alloc, text)
+}
+
+/// Stops unless the two are equal. A comparison is proved here once, and a test only calls it.
+pub fn expect<T: PartialEq + Debug + Drop>(rt: &impl Abort, found: T, wanted: T) {
+    assert_eq!(rt; found, wanted);
 }

@@ -1,4 +1,4 @@
 use Rattle.definition_tests.proofs.definitions.expect_rows.Given as goal
 
-abbrev pub ghosts-answers : goal.ghosts-answers
-ghosts-answers g a = record { name = a.blank.name; parts = a.blank.parts }
+abbrev pub ghosts-expect_answers : goal.ghosts-expect_answers
+ghosts-expect_answers g a = record { name = a.blank.name; parts = a.blank.parts }
