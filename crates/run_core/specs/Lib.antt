@@ -1,5 +1,2 @@
-pub mod State
-pub mod Fits
-pub mod Legal
-pub mod Endings
+pub mod PlainRules
 pub mod PlainRun

@@ -43,7 +43,7 @@ fn tell(rt: HostRuntime, words: &[NcText], status: Status) {
             eprintln!(rt; "stepnc: standard output could not take all that was to be written")
         }
         Status::NoMemory => eprintln!(rt; "stepnc: out of memory"),
-        Status::Done | Status::RunLimit | Status::Written | Status::ProjectRefused(_) => Ok(()),
+        Status::Done | Status::Blocked | Status::RunLimit | Status::Written | Status::ProjectRefused(_) => Ok(()),
     };
 }
 

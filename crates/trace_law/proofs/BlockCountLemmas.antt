@@ -17,8 +17,9 @@ use Rattle.trace_law.proofs.StepForthLemmas.{pick_is}
 use Rattle.trace_law.proofs.StepBackLemmas.{test_is}
 use Rattle.trace_law.proofs.StayLemmas.{inside_at}
 use Rattle.trace_law.proofs.OfferLemmas.{self, stage_only, stage_append, any_start, ends_with}
+use Rattle.path_blocks.specs.declared.block.Block.{Block as PathBlock}
 
-cut_stage : (m i : ℕ) (t rest : List Entry) (n k b : ℕ) → IsCut m i (t ++ Block n k b ∷ rest) → stage_from m (Some i) t ≡ Some k
+cut_stage : (m i : ℕ) (t rest : List Entry) (n k : ℕ) (b : PathBlock) → IsCut m i (t ++ Block n k b ∷ rest) → stage_from m (Some i) t ≡ Some k
 cut_stage m i [] rest n k b w = ap (λ (j : ℕ). Some j) (sym w.1)
 cut_stage m i (Block j l a ∷ t) rest n k b w = rw (self m j w.0) (cut_stage m (i + 1) t rest n k b w.2)
 cut_stage m i (End j ∷ t) rest n k b w = absurd (never j t w)
@@ -28,19 +29,19 @@ cut_stage m i (End j ∷ t) rest n k b w = absurd (never j t w)
     never j (y ∷ t) w = w
 cut_stage m i (y ∷ t) rest n k b w = absurd w
 
-cut_number : (m i : ℕ) (t rest : List Entry) (n k b : ℕ) → IsCut m i (t ++ Block n k b ∷ rest) → n ≡ m
+cut_number : (m i : ℕ) (t rest : List Entry) (n k : ℕ) (b : PathBlock) → IsCut m i (t ++ Block n k b ∷ rest) → n ≡ m
 cut_number m i [] rest n k b w = w.0
 cut_number m i (Block j l a ∷ t) rest n k b w = cut_number m (i + 1) t rest n k b w.2
 cut_number m i (End j ∷ []) rest n k b w = absurd w
 cut_number m i (End j ∷ y ∷ t) rest n k b w = absurd w
 cut_number m i (y ∷ t) rest n k b w = absurd w
 
-work_stage : (m : ℕ) (t rest : List Entry) (n k b : ℕ) → IsWork m (t ++ Block n k b ∷ rest) → (n ≡ m) × (stage m t ≡ Some k)
+work_stage : (m : ℕ) (t rest : List Entry) (n k : ℕ) (b : PathBlock) → IsWork m (t ++ Block n k b ∷ rest) → (n ≡ m) × (stage m t ≡ Some k)
 work_stage m [] rest n k b w = absurd w
 work_stage m (Dispatch j v ∷ t) rest n k b w = (cut_number m 0 t rest n k b w.1, rw (self m j w.0) (cut_stage m 0 t rest n k b w.1))
 work_stage m (y ∷ t) rest n k b w = absurd w
 
-leaf_no_block : (l : LeafKind) (m n k b : ℕ) → IsOfLeaf l m (Block n k b) → ⊥
+leaf_no_block : (l : LeafKind) (m n k : ℕ) (b : PathBlock) → IsOfLeaf l m (Block n k b) → ⊥
 leaf_no_block Assigning m n k b w = w
 leaf_no_block Setting m n k b w = w
 leaf_no_block Waiting m n k b w = w
@@ -64,7 +65,7 @@ loop_says whole part step test G (Tested true t ∷ s ∷ rest) f h q p = loop_s
 loop_says whole part step test G (Tested false t ∷ s ∷ rest) f h q p = absurd q
 
 mutual
-  pub step_stage : (e : Exec) (t : List Entry) (n k b : ℕ) (c : Option ℕ) → Apart e → Part e t → Step e t (Block n k b) → stage_from n c t ≡ Some k
+  pub step_stage : (e : Exec) (t : List Entry) (n k : ℕ) (b : PathBlock) (c : Option ℕ) → Apart e → Part e t → Step e t (Block n k b) → stage_from n c t ≡ Some k
   step_stage (Work m) t n k b c d p s =
       let z = work_stage m t s.0 n k b s.1 in any_start n k None c t (inl refl) (subst (λ (j : ℕ). stage j t ≡ Some k) (sym z.0) z.1)
   step_stage (Leaf m l) t n k b c d p s = absurd (leaf_no_block l m n k b s.1)
@@ -93,17 +94,17 @@ mutual
       (λ u i q r. ap (λ (v : List Entry). stage_from n c v) z.1
       ∙ (stage_append n c z.0 (last_body (turns m t)) ∙ subst (λ (v : List Entry). stage_from n (stage_from n c z.0) v ≡ Some k) i (step_stage a u n k b (stage_from n c z.0) d.1 q r))) p.1 s
 
-  stage_in_order : (es : Execs) (t : List Entry) (n k b : ℕ) (c : Option ℕ) → ApartAll es → InOrder es t → StepInOrder es t (Block n k b) → stage_from n c t ≡ Some k
+  stage_in_order : (es : Execs) (t : List Entry) (n k : ℕ) (b : PathBlock) (c : Option ℕ) → ApartAll es → InOrder es t → StepInOrder es t (Block n k b) → stage_from n c t ≡ Some k
   stage_in_order None_left t n k b c d p s = absurd s
   stage_in_order (Then e es) t n k b c d p (inl s) = sym (stage_only n (nodes e) c t s.0) ∙ step_stage e (only (nodes e) t) n k b c d.0 p.0 s.2
   stage_in_order (Then e es) t n k b c d p (inr s) = stage_in_order es t n k b c d.1 p.2 s.2
 
-  stage_of_one : (es : Execs) (t : List Entry) (n k b : ℕ) (c : Option ℕ) → ApartAll es → EachPart es t → StepOfOne es t (Block n k b) → stage_from n c t ≡ Some k
+  stage_of_one : (es : Execs) (t : List Entry) (n k : ℕ) (b : PathBlock) (c : Option ℕ) → ApartAll es → EachPart es t → StepOfOne es t (Block n k b) → stage_from n c t ≡ Some k
   stage_of_one None_left t n k b c d p s = absurd s
   stage_of_one (Then e es) t n k b c d p (inl s) = sym (stage_only n (nodes e) c t s.0) ∙ step_stage e (only (nodes e) t) n k b c d.0 p.0 s.1
   stage_of_one (Then e es) t n k b c d p (inr s) = stage_of_one es t n k b c d.1 p.1 s.1
 
-  stage_at : (es : Execs) (i : ℕ) (t : List Entry) (n k b : ℕ) (c : Option ℕ) → ApartAll es → PartAt es i t → StepAt es i t (Block n k b) → stage_from n c t ≡ Some k
+  stage_at : (es : Execs) (i : ℕ) (t : List Entry) (n k : ℕ) (b : PathBlock) (c : Option ℕ) → ApartAll es → PartAt es i t → StepAt es i t (Block n k b) → stage_from n c t ≡ Some k
   stage_at None_left i t n k b c d p s = absurd p
   stage_at (Then e es) zero t n k b c d p s = step_stage e t n k b c d.0 p s
   stage_at (Then e es) (suc i) t n k b c d p s = stage_at es i t n k b c d.1 p s

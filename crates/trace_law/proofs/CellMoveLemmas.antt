@@ -14,9 +14,12 @@ use Rattle.trace_law.proofs.StepBackLemmas.{part_inside, part_inside_at, part_ni
 -- ---- a step continues
 use Rattle.trace_law.specs.Cells.{Cell, Over, Picked, AnsweredBy, cell_of_stage, work_cell, stage_of, leaf_cell, last_answer, last_body, Shows, ShowsAll, picked, AreKept, work_after, WhereTrue, WhereSome, Moves, MovesIn}
 use Rattle.trace_law.proofs.CellNextLemmas.{only_rest, no_cons}
-use Rattle.trace_law.proofs.Arena_old.{has_self}
 use Rattle.trace_law.specs.State.{stage, stage_step}
 use Rattle.trace_law.proofs.OfferLemmas.{stage_append}
+use Rattle.std.proofs.lemmas.Bool.Decides.{nat_tests}
+
+has_self : (q : ℕ) → (q == q) ≡ true
+has_self q = grind (arith, nat_tests)
 
 no_way : true ≡ false → ⊥
 no_way e = cc
