@@ -8,7 +8,7 @@ use Rattle.exec_tree.specs.Exec.{Exec}
 use Rattle.trace_law.specs.Of.{number_of, only}
 use Rattle.trace_law.specs.Whole.{IsCut, IsWork}
 use Rattle.trace_law.specs.Next.{next_work}
-use Rattle.trace_law.specs.State.{stage_from, stage, is_open}
+use Rattle.trace_law.specs.State.{stage_step, stage_from, stage, is_open}
 use Rattle.run_law.specs.Fits.{HasValues, is_plain}
 use Rattle.run_core.specs.PlainRules.{plain_rules}
 use Rattle.run_core.specs.PlainRun.{cut_from, segment}
@@ -129,11 +129,15 @@ inside n path (y ∷ t) x w e =
 -- a node that has ended
 segment_closed : (n : ℕ) (path : List Block) → stage n (segment n path) ≡ None
 unfolding segment
-segment_closed n path = rw (same n) (ended n 0 0 path)
+segment_closed n path =
+    let first : stage_step n None (entries.Dispatch n 0) ≡ Some 0 = rw (same n) refl in
+    ap (λ (o : Option ℕ). stage_from n o (cut_from n 0 path ++ entries.End n ∷ [])) first ∙ ended n 0 0 path
   where
     ended : (n j k : ℕ) (bs : List Block) → stage_from n (Some j) (cut_from n k bs ++ entries.End n ∷ []) ≡ None
     ended n j k [] = rw (same n) refl
-    ended n j k (b ∷ bs) = rw (same n) (ended n (j + 1) (k + 1) bs)
+    ended n j k (b ∷ bs) =
+        let one : stage_step n (Some j) (entries.Block n k b) ≡ Some (j + 1) = rw (same n) refl in
+        ap (λ (o : Option ℕ). stage_from n o (cut_from n (k + 1) bs ++ entries.End n ∷ [])) one ∙ ended n (j + 1) (k + 1) bs
 
 -- a node that has ended, and wasn't dispatched again, is closed
 pub closed_behind : (n : ℕ) (path : List Block) (t : List Entry) → only (n ∷ []) t ≡ [] → is_open n (segment n path ++ t) ≡ false
