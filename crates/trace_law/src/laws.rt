@@ -1,7 +1,7 @@
 //! Laws of Whole, Part and Next. Each function's contract is the law, and its body is empty.
 
 ghost use Rattle.std.specs.Prelude.{◌≡◌, ◌↔◌, ◌+◌, ◌&&◌, ℕ, Bool, List, [], ◌∷◌, ◌++◌, true, Some, None};
-ghost use Rattle.exec_tree.specs.Exec.{Exec, Execs, Par, nodes, AreDistinct, has, works, HasChoices};
+ghost use Rattle.exec_tree.specs.Exec.{Exec, Execs, Par, Then, nodes, AreDistinct, has, works, HasChoices};
 ghost use Rattle.trace_law.specs.Of.{is_of, number_of, only};
 ghost use Rattle.trace_law.specs.State.{keeps, is_open, stage};
 ghost use Rattle.trace_law.specs.Offer.{offer, offer_by, Cuts, IsOffered, IsOpen};
@@ -13,7 +13,7 @@ ghost use Rattle.trace_law.specs.Frames.{Stands, Goes, going, one_where};
 ghost use Rattle.std.specs.List.{filter, find, list_any};
 ghost use Rattle.trace_law.specs.Whole.{Whole};
 ghost use Rattle.trace_law.specs.Part.{Part};
-ghost use Rattle.trace_law.specs.Next.{next};
+ghost use Rattle.trace_law.specs.Next.{next, next_in_order};
 ghost use Rattle.trace_law.specs.Step.{Step, Continues};
 ghost use Rattle.run_log.specs.declared.entry.Entry.{Entry};
 ghost use Rattle.run_log.specs.declared.entry.Entry.TheVariants.{Block};
@@ -23,6 +23,12 @@ ghost use Rattle.trace_law.specs.Stray.{first_stray, IsFirstStray};
 /// A part is whole exactly where nothing can go on.
 pub fn whole_where_nothing_is_next()
     ensures { (e : Exec) (t : List Entry) → Part e t → (Whole e t ↔ (next e t ≡ [])) }
+{}
+
+/// A workplan goes on at its first element that isn't whole.
+pub fn a_workplan_goes_on_at_its_first()
+    ensures whole { (e : Exec) (es : Execs) (t : List Entry) → Whole e (only (nodes e) t) → next_in_order (Then e es) t ≡ next_in_order es t }
+    ensures part { (e : Exec) (es : Execs) (t : List Entry) → Part e (only (nodes e) t) → (Whole e (only (nodes e) t) → ⊥) → next_in_order (Then e es) t ≡ next e (only (nodes e) t) }
 {}
 
 /// Where a part followed by one entry is a part, that entry's node could go on.

@@ -1,6 +1,6 @@
 //! What a run of a tree of executables is: whole runs, runs so far, and where a run can go on. The definitions stand in
-//! specs/; the functions of `laws` carry their laws, and `part`, `whole`, `next` and `first_stray` decide them for an arena of nodes, entry by entry and from
-//! the beginning: the plain way, to compare others with. The tests stand in the crate law_tests.
+//! specs/; the functions of `laws` carry their laws, and `part`, `whole`, `next` and `first_stray` decide them for a tree, entry by entry
+//! and each time from the beginning: the plain way, to compare others with. The tests stand in the crate law_tests.
 //!
 //! | module | what is in it | calls |
 //! |---|---|---|
