@@ -104,7 +104,12 @@ fn spend_expression<E: Entities>(entities: &E, entity: &Entity) -> Option<u32>
     ensures { result ≡ rest MAX_EXPRESSION_NODES (expression_size_of (λ m. size (E.entities entities.now) (suc MAX_EXPRESSION_NODES) m) entity.now) }
 {
     match expression_of(entity) {
-        Some(field) => spend_operand(entities, field, MAX_EXPRESSION_NODES + 1, MAX_EXPRESSION_NODES),
+        Some(field) => spend_operand(
+            entities,
+            field,
+            MAX_EXPRESSION_NODES + 1,
+            MAX_EXPRESSION_NODES,
+        ),
         None => Some(MAX_EXPRESSION_NODES),
     }
 }

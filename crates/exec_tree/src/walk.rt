@@ -193,7 +193,11 @@ impl Walk {
     }
 
     /// The tree of these nodes, with what each says.
-    pub(crate) fn into_tree<E: Entities>(self, alloc: Global, entities: &E) -> Result<Tree, NoMemory>
+    pub(crate) fn into_tree<E: Entities>(
+        self,
+        alloc: Global,
+        entities: &E,
+    ) -> Result<Tree, NoMemory>
         requires closed { IsClosed self.nodes 0 (length self.nodes) }
         requires shaped { AreShaped self.nodes }
         ensures { IfOk result (λ tree. tree ≡ record { nodes = self.nodes; said = map (said_at (E.entities entities.now)) self.nodes; channels = self.channels }) }

@@ -53,7 +53,11 @@ fn expression(alloc: Global, a: i64, operation: Operation, b: i64) -> Result<Exp
     })
 }
 
-fn expect_value(rt: &impl Abort, alloc: Global, row: &(i64, Operation, i64, i64)) -> Result<(), NoMemory> {
+fn expect_value(
+    rt: &impl Abort,
+    alloc: Global,
+    row: &(i64, Operation, i64, i64),
+) -> Result<(), NoMemory> {
     let (a, operation, b, want) = *row;
     let e = expression(alloc, a, operation, b)?;
     let vars = Vars::new(alloc, &[])?;
@@ -110,19 +114,34 @@ fn both(alloc: Global, a: bool, b: bool) -> Result<(Box<Cond>, Box<Cond>), NoMem
     ))
 }
 
-fn expect_and(rt: &impl Abort, alloc: Global, vars: &Vars, row: &(bool, bool, [bool; 3])) -> Result<(), NoMemory> {
+fn expect_and(
+    rt: &impl Abort,
+    alloc: Global,
+    vars: &Vars,
+    row: &(bool, bool, [bool; 3]),
+) -> Result<(), NoMemory> {
     let (a, b) = both(alloc, row.0, row.1)?;
     assert_eq!(rt; test(&Cond::And(a, b), vars), row.2[0]);
     Ok(())
 }
 
-fn expect_or(rt: &impl Abort, alloc: Global, vars: &Vars, row: &(bool, bool, [bool; 3])) -> Result<(), NoMemory> {
+fn expect_or(
+    rt: &impl Abort,
+    alloc: Global,
+    vars: &Vars,
+    row: &(bool, bool, [bool; 3]),
+) -> Result<(), NoMemory> {
     let (a, b) = both(alloc, row.0, row.1)?;
     assert_eq!(rt; test(&Cond::Or(a, b), vars), row.2[1]);
     Ok(())
 }
 
-fn expect_xor(rt: &impl Abort, alloc: Global, vars: &Vars, row: &(bool, bool, [bool; 3])) -> Result<(), NoMemory> {
+fn expect_xor(
+    rt: &impl Abort,
+    alloc: Global,
+    vars: &Vars,
+    row: &(bool, bool, [bool; 3]),
+) -> Result<(), NoMemory> {
     let (a, b) = both(alloc, row.0, row.1)?;
     assert_eq!(rt; test(&Cond::Xor(a, b), vars), row.2[2]);
     Ok(())

@@ -1,10 +1,9 @@
 //! The first fault of a walk, by projects small enough to read.
 
 use crate::projects::expect_fault;
+use TreeErr::{ExprTooBig, Shared, TooManyChannels};
 use exec_tree::TreeErr;
 use std::test::Fail;
-
-use TreeErr::{ExprTooBig, Shared, TooManyChannels};
 
 /// Instances, and the first fault of their tree.
 type Row = (&'static str, Option<TreeErr>);
@@ -12,13 +11,22 @@ type Row = (&'static str, Option<TreeErr>);
 const ROWS: &[Row] = &[
     ("#2=WORKPLAN('M',(),$);", None),
     // one executable twice: side by side, in two branches, below itself, the main workplan
-    ("#2=WORKPLAN('M',(#3,#4),$);#3=DISPLAY_MESSAGE('');#4=DISPLAY_MESSAGE('');", None),
-    ("#2=WORKPLAN('M',(#3,#3),$);#3=DISPLAY_MESSAGE('');", Some(Shared(3))),
+    (
+        "#2=WORKPLAN('M',(#3,#4),$);#3=DISPLAY_MESSAGE('');#4=DISPLAY_MESSAGE('');",
+        None,
+    ),
+    (
+        "#2=WORKPLAN('M',(#3,#3),$);#3=DISPLAY_MESSAGE('');",
+        Some(Shared(3)),
+    ),
     (
         "#2=WORKPLAN('M',(#3,#4),$);#3=WORKPLAN('',(#5),$);#4=PARALLEL('',(#5));#5=SET_MARK('');",
         Some(Shared(5)),
     ),
-    ("#2=WORKPLAN('M',(#3),$);#3=SELECTIVE('',(#4,#3));#4=LOAD_TOOL('');", Some(Shared(3))),
+    (
+        "#2=WORKPLAN('M',(#3),$);#3=SELECTIVE('',(#4,#3));#4=LOAD_TOOL('');",
+        Some(Shared(3)),
+    ),
     ("#2=WORKPLAN('M',(#2),$);", Some(Shared(2))),
     (
         "#2=WORKPLAN('M',(#3),$);#3=IF_STATEMENT('',#9,#4,#4);#4=DISPLAY_MESSAGE('');#9=AND_EXPRESSION(());",
@@ -29,7 +37,10 @@ const ROWS: &[Row] = &[
         None,
     ),
     // a mark that is waited for stands where it is set
-    ("#2=WORKPLAN('M',(#3,#4),$);#3=SET_MARK('');#4=WAIT_FOR_MARK('',#3);", None),
+    (
+        "#2=WORKPLAN('M',(#3,#4),$);#3=SET_MARK('');#4=WAIT_FOR_MARK('',#3);",
+        None,
+    ),
     // conditions and values that lead back to themselves, by one step and by two, and one that shares without an end
     (
         "#2=WORKPLAN('M',(#3),$);#3=WHILE_STATEMENT('W',#4,#6);#4=NOT_EXPRESSION(#4);#6=DISPLAY_MESSAGE('X');",

@@ -1,13 +1,12 @@
 //! Each limit of a tree and one past it, and which of two faults in one project comes first.
 
 use crate::projects::{expect_fault, put};
+use TreeErr::{ExprTooBig, Shared, TooDeep, TooManyChannels, TooManyNodes};
 use exec_tree::{MAX_EXPRESSION_NODES, MAX_TREE_NESTING, MAX_TREE_NODES, TreeErr};
 use nc_base::NoMemory;
 use std::alloc::Global;
 use std::process::Abort;
 use std::test::Fail;
-
-use TreeErr::{ExprTooBig, Shared, TooDeep, TooManyChannels, TooManyNodes};
 
 /// So many workplans from #`from` on, each in the one before, and `inner` in the last.
 fn put_chain(
@@ -132,7 +131,9 @@ fn expect_condition(
     let mut text = String::new(alloc);
     put(
         &mut text,
-        &format!(in alloc; "#2=WORKPLAN('M',(#3),$);#3=WHILE_STATEMENT('',{condition},#6);#6=DISPLAY_MESSAGE('');#7=NOT_EXPRESSION(#4);")?,
+        &format!(in alloc;
+            "#2=WORKPLAN('M',(#3),$);#3=WHILE_STATEMENT('',{condition},#6);#6=DISPLAY_MESSAGE('');#7=NOT_EXPRESSION(#4);"
+        )?,
     )?;
     put_conjunction(alloc, &mut text, 4, 5, count)?;
     expect_fault(rt, alloc, &text, want)
@@ -157,7 +158,9 @@ fn put_whiles(alloc: Global, text: &mut String, number: u32, count: u32) -> Resu
         let body = u32::wrapping_add(500, i);
         put(
             text,
-            &format!(in alloc; "#{n}=WHILE_STATEMENT('',#390,#{body});#{body}=DISPLAY_MESSAGE('');")?,
+            &format!(in alloc;
+                "#{n}=WHILE_STATEMENT('',#390,#{body});#{body}=DISPLAY_MESSAGE('');"
+            )?,
         )?;
     }
     put_conjunction(alloc, text, 390, 391, 333)
@@ -234,7 +237,10 @@ fn fault(faulty: Faulty) -> TreeErr {
 
 fn put_faulty(alloc: Global, text: &mut String, faulty: Faulty) -> Result<(), NoMemory> {
     match faulty {
-        Faulty::Shared => put(text, "#10=WORKPLAN('',(#11,#11),$);#11=DISPLAY_MESSAGE('');"),
+        Faulty::Shared => put(
+            text,
+            "#10=WORKPLAN('',(#11,#11),$);#11=DISPLAY_MESSAGE('');",
+        ),
         // #100 has nesting 2, and #163 nesting 65
         Faulty::TooDeep => put_chain(alloc, text, 100, 64, ""),
         Faulty::TooManyNodes => put_whiles(alloc, text, 200, 66),
@@ -281,7 +287,10 @@ fn expect_at_one(
     want: TreeErr,
 ) -> Result<(), Fail> {
     let mut text = String::new(alloc);
-    put(&mut text, &format!(in alloc; "#2=WORKPLAN('M',({before}#100),$);")?)?;
+    put(
+        &mut text,
+        &format!(in alloc; "#2=WORKPLAN('M',({before}#100),$);")?,
+    )?;
     put_chain(alloc, &mut text, 100, 63, inner)?;
     put(&mut text, more)?;
     expect_fault(rt, alloc, &text, Some(want))

@@ -52,13 +52,21 @@ const NUMBERS: &[(Number, Option<u32>, u8, Role)] = &[
 fn expect_node(rt: &impl Abort, tree: &Tree, index: usize) {
     let (number, channel, kind, elements) = NODES[index];
     let node = &tree.nodes()[index];
-    assert_eq!(rt; (node.number, node.channel, node.kind.kind()), (number, channel, kind), "place {index}");
+    assert_eq!(rt;
+        (node.number, node.channel, node.kind.kind()),
+        (number, channel, kind),
+        "place {index}"
+    );
     assert_eq!(rt; node.elements.as_slice(), elements, "place {index}");
 }
 
 fn expect_number(rt: &impl Abort, tree: &Tree, row: &(Number, Option<u32>, u8, Role)) {
     let (n, place, channel, role) = *row;
-    assert_eq!(rt; (tree.place_of(n), tree.channel(n), tree.role(n)), (place, channel, role), "#{n}");
+    assert_eq!(rt;
+        (tree.place_of(n), tree.channel(n), tree.role(n)),
+        (place, channel, role),
+        "#{n}"
+    );
 }
 
 #[test]
@@ -88,7 +96,10 @@ fn a_tree_has_its_workingsteps_and_channels_in_order(rt: HostRuntime) -> Result<
     let tree = build(rt.alloc(), &store)?;
     assert_eq!(&rt; tree.steps(), [14, 15].as_slice());
     assert_eq!(&rt; tree.channel_table(), [20, 21].as_slice());
-    assert_eq!(&rt; (tree.main_workplan(), tree.len(), tree.channels()), (2, 11, 2));
+    assert_eq!(&rt;
+        (tree.main_workplan(), tree.len(), tree.channels()),
+        (2, 11, 2)
+    );
     Ok(())
 }
 
@@ -122,7 +133,12 @@ const SAID: &[(i64, bool, i64)] = &[
     (-1, true, -2),
 ];
 
-fn expect_said(rt: &impl Abort, alloc: Global, tree: &Tree, row: &(i64, bool, i64)) -> Result<(), NoMemory> {
+fn expect_said(
+    rt: &impl Abort,
+    alloc: Global,
+    tree: &Tree,
+    row: &(i64, bool, i64),
+) -> Result<(), NoMemory> {
     let (x, answer, assigned) = *row;
     let vars = Vars::new(alloc, &[(5, x)])?;
     assert_eq!(rt; said(tree, 3, &vars), (Some(answer), None));
@@ -161,11 +177,19 @@ fn a_look_at_a_place_finds_its_node(rt: HostRuntime) -> Result<(), Fail> {
     let store = store(&rt, alloc, PROJECT)?;
     let tree = build(alloc, &store)?;
     let numbers = looked_at::<Brand>(alloc, Blank::new(1), &tree)?;
-    assert_eq!(&rt; numbers.as_slice(), [2, 3, 6, 14, 7, 8, 0, 9, 15, 12, 13].as_slice());
+    assert_eq!(&rt;
+        numbers.as_slice(),
+        [2, 3, 6, 14, 7, 8, 0, 9, 15, 12, 13].as_slice()
+    );
     Ok(())
 }
 
-fn workplan(alloc: Global, number: Number, element: Number, channel: Number) -> Result<Entity, NoMemory> {
+fn workplan(
+    alloc: Global,
+    number: Number,
+    element: Number,
+    channel: Number,
+) -> Result<Entity, NoMemory> {
     let mut elements = NumberList::new(alloc);
     elements.push(element)?;
     let mut fields = FieldList::new(alloc);
@@ -179,7 +203,12 @@ fn workplan(alloc: Global, number: Number, element: Number, channel: Number) -> 
 }
 
 /// The tree after an edit that puts this workplan, or its fault.
-fn after(alloc: Global, store: &Store, old: &Tree, item: Entity) -> Result<Result<Tree, TreeErr>, NoMemory> {
+fn after(
+    alloc: Global,
+    store: &Store,
+    old: &Tree,
+    item: Entity,
+) -> Result<Result<Tree, TreeErr>, NoMemory> {
     let mut items = EntityList::new(alloc);
     items.push(item)?;
     Ok(rebuild(alloc, &Overlay::new(store, &items), old))
