@@ -2,7 +2,8 @@
 use Rattle.std.specs.Prelude.{◌≡◌, ◌<◌, ◌≤◌, ◌-◌, ℕ, suc, pos, Bool, false, List, ◌∷◌, length, Option, Some, None}
 use Rattle.std.proofs.Common.{refl, sym, ap, subst, ◌∙◌, arith, get_or, drop, drop-cons}
 use Rattle.entity_types.specs.declared.entity.Entity.{Entity}
-use Rattle.exec_tree.specs.Terms.{Written, Test, Constant, term_from, entity_term, test_from, entity_test, join, list_test}
+use Rattle.nc_expr.specs.Term.{Written, Test, Constant}
+use Rattle.exec_tree.specs.Terms.{term_from, entity_term, test_from, entity_test, join, list_test}
 
 pub term_zero : (entities : ℕ → Option Entity) (levels n : ℕ) → levels ≡ 0 → Written (pos 0) ≡ term_from entities levels n
 unfolding term_from

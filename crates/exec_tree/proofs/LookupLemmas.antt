@@ -132,11 +132,11 @@ steps_told start entities main tree t =
 -- the first with a test's answer has it
 found_has : {A : Type 0} (p : A → Bool) (xs : List A) (x : A) → find p xs ≡ Some x → p x ≡ true
 found_has p [] x e = absurd (cc)
-found_has p (y ∷ xs) x e = go (p y) refl e
+found_has p (y ∷ xs) x e = go (p y) refl e (found_has p xs x)
   where
-    go : (b : Bool) → p y ≡ b → cond b (Some y) (find p xs) ≡ Some x → p x ≡ true
-    go true h f = let same : y ≡ x = cc in ap p (sym same) ∙ h
-    go false h f = found_has p xs x f
+    go : (b : Bool) → p y ≡ b → cond b (Some y) (find p xs) ≡ Some x → (find p xs ≡ Some x → p x ≡ true) → p x ≡ true
+    go true h f r = let same : y ≡ x = cc in ap p (sym same) ∙ h
+    go false h f r = r f
 
 numbered_is : (o : Option ℕ) (n : ℕ) → is_numbered o n ≡ true → o ≡ Some n
 numbered_is None n h = absurd (cc)

@@ -1,5 +1,5 @@
 -- The main workplan of a store is an executable of it.
-use Rattle.std.specs.Prelude.{◌≡◌, ◌==◌, ◌&&◌, ℕ, nat_eq, unwrap_or, Bool, true, false, List, [], ◌∷◌, filter, find, Option, Some, None, IsTrue, Contains}
+use Rattle.std.specs.Prelude.{◌≡◌, ◌==◌, ℕ, nat_eq, unwrap_or, Bool, true, false, List, [], ◌∷◌, filter, Option, Some, None, IsTrue}
 use Rattle.std.specs.Option.{option_map_or}
 use Rattle.std.specs.List.{IsDistinct, AllByRecursion}
 use Rattle.std.proofs.Common.{refl, sym, ap, subst, ◌∙◌, arith, cond}
@@ -12,14 +12,14 @@ use Rattle.entity_types.specs.declared.field.Field.TheVariants.{Absent, Present,
 use Rattle.entity_types.specs.declared.entity.Entity.{Entity}
 use Rattle.entity_types.specs.declared.table.Target.TheVariants as to
 use Rattle.entity_types.specs.Class.{code_of}
-use Rattle.entity_types.specs.Entity.{field_at, field_of, references_of}
+use Rattle.entity_types.specs.Entity.{field_at, field_of}
 use Rattle.entity_types.specs.Fits.{fields_fit}
 use Rattle.entity_types.specs.Table.{used_of}
 use Rattle.entity_types.specs.Target.{accepts}
 use Rattle.project_store.specs.Build.{is_project, projects_of}
 use Rattle.project_store.specs.Entities.{numbers_of, entity_at}
 use Rattle.project_store.specs.Resolved.{IsResolved, target_at}
-use Rattle.exec_tree.specs.Executable.{reference_of, reference_at}
+use Rattle.exec_tree.specs.Executable.{reference_of}
 use Rattle.exec_tree.specs.Built.{main_among, main_of}
 use Rattle.exec_tree.specs.Resolving.{IsExecutable}
 
@@ -30,36 +30,37 @@ no_way h = absurd (cc)
 
 apart : (xs : List Entity) (project : Entity) (n : ℕ) → AllByRecursion (λ y. nat_eq n y ≡ false) (numbers_of xs) → filter is_project xs ≡ project ∷ [] → nat_eq n project.number ≡ false
 apart [] project n d e = absurd (cc)
-apart (x ∷ xs) project n d e = go (is_project x) e
+apart (x ∷ xs) project n d e = go (is_project x) e (apart xs project n d.1)
   where
-    go : (b : Bool) → cond b (x ∷ filter is_project xs) (filter is_project xs) ≡ project ∷ [] → nat_eq n project.number ≡ false
-    go true f = let same : x ≡ project = cc in subst (λ (y : Entity). nat_eq n y.number ≡ false) same d.0
-    go false f = apart xs project n d.1 f
+    go : (b : Bool) → cond b (x ∷ filter is_project xs) (filter is_project xs) ≡ project ∷ [] → (filter is_project xs ≡ project ∷ [] → nat_eq n project.number ≡ false) → nat_eq n project.number ≡ false
+    go true f r = let same : x ≡ project = cc in subst (λ (y : Entity). nat_eq n y.number ≡ false) same d.0
+    go false f r = r f
 
 found_by_number : (xs : List Entity) (project : Entity) → IsDistinct nat_eq (numbers_of xs) → filter is_project xs ≡ project ∷ [] → entity_at xs project.number ≡ Some project
 unfolding IsDistinct
 found_by_number [] project d e = absurd (cc)
-found_by_number (x ∷ xs) project d e = go (is_project x) e
+found_by_number (x ∷ xs) project d e = go (is_project x) e (apart xs project x.number d.0) (found_by_number xs project d.1)
   where
     itself : (y : Entity) → y ≡ x → cond (y.number == x.number) (Some x) (entity_at xs y.number) ≡ Some y
     itself y s =
         let n : (x.number == x.number) ≡ true = grind (arith, nat_tests) in
         subst (λ (z : Entity). cond (z.number == x.number) (Some x) (entity_at xs z.number) ≡ Some z) (sym s) (ap (λ (b : Bool). cond b (Some x) (entity_at xs x.number)) n)
 
-    go : (b : Bool) → cond b (x ∷ filter is_project xs) (filter is_project xs) ≡ project ∷ [] → entity_at (x ∷ xs) project.number ≡ Some project
-    go true f = let same : project ≡ x = cc in itself project same
-    go false f =
-        let a = apart xs project x.number d.0 f in
+    go : (b : Bool) → cond b (x ∷ filter is_project xs) (filter is_project xs) ≡ project ∷ [] → (filter is_project xs ≡ project ∷ [] → nat_eq x.number project.number ≡ false)
+        → (filter is_project xs ≡ project ∷ [] → entity_at xs project.number ≡ Some project) → entity_at (x ∷ xs) project.number ≡ Some project
+    go true f r l = let same : project ≡ x = cc in itself project same
+    go false f r l =
+        let a = r f in
         let n : (project.number == x.number) ≡ false = grind (arith, nat_tests) in
-        ap (λ (b : Bool). cond b (Some x) (entity_at xs project.number)) n ∙ found_by_number xs project d.1 f
+        ap (λ (b : Bool). cond b (Some x) (entity_at xs project.number)) n ∙ l f
 
 project_is : (xs : List Entity) (project : Entity) → filter is_project xs ≡ project ∷ [] → is_project project ≡ true
 project_is [] project e = absurd (cc)
-project_is (x ∷ xs) project e = go (is_project x) refl e
+project_is (x ∷ xs) project e = go (is_project x) refl e (project_is xs project)
   where
-    go : (b : Bool) → is_project x ≡ b → cond b (x ∷ filter is_project xs) (filter is_project xs) ≡ project ∷ [] → is_project project ≡ true
-    go true i f = let same : x ≡ project = cc in subst (λ (y : Entity). is_project y ≡ true) same i
-    go false i f = project_is xs project f
+    go : (b : Bool) → is_project x ≡ b → cond b (x ∷ filter is_project xs) (filter is_project xs) ≡ project ∷ [] → (filter is_project xs ≡ project ∷ [] → is_project project ≡ true) → is_project project ≡ true
+    go true i f r = let same : x ≡ project = cc in subst (λ (y : Entity). is_project y ≡ true) same i
+    go false i f r = r f
 
 -- ---- what it refers to
 

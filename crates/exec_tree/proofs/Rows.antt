@@ -1,7 +1,7 @@
 -- Small stores whose tree, or first fault, computes: each fault at its limit and one past it, and which of two faults comes first.
-use Rattle.std.specs.Prelude.{◌≡◌, ℕ, zero, suc, pos, true, false, List, [], ◌∷◌, ◌++◌, Option, Some, None}
+use Rattle.std.specs.Prelude.{◌≡◌, ℕ, zero, suc, pos, true, false, List, [], ◌∷◌, ◌++◌, Some, None}
 use Rattle.std.proofs.Common.{refl}
-use Rattle.entity_types.specs.declared.class.Class.TheVariants.{Project, Workplan, NonSequential, IfStatement, WhileStatement, Assignment, WaitForMark, Note, Channel, NcVariable, NcSum, AndExpression, NotExpression, ComparisonLess}
+use Rattle.entity_types.specs.declared.class.Class.TheVariants.{Workplan, NonSequential, IfStatement, WhileStatement, Assignment, WaitForMark, Note, Channel, NcVariable, NcSum, AndExpression, NotExpression, ComparisonLess}
 use Rattle.entity_types.specs.declared.field.Field.TheVariants.{Absent, Ref, Refs, Value}
 use Rattle.entity_types.specs.declared.entity.Entity.{Entity}
 use Rattle.project_store.specs.Entities.{entity_at}
@@ -16,7 +16,7 @@ use Rattle.exec_tree.specs.Said.{Repeats, Assigns, said_for}
 use Rattle.exec_tree.specs.Role.{role_of}
 use Rattle.exec_tree.specs.Executable.{kind_at}
 use Rattle.exec_tree.specs.Walk.{visits_from}
-use Rattle.exec_tree.specs.TreeFault.{Seen, fault_by, first_fault, first_tree_fault, first_fault_from, seen_before, walk_of}
+use Rattle.exec_tree.specs.TreeFault.{Seen, fault_by, first_tree_fault, first_fault_from, seen_before}
 use Rattle.exec_tree.specs.TreeOf.{tree_from, tree_of}
 use Rattle.exec_tree.specs.Built.{channels_of, channel_of}
 

@@ -17,7 +17,8 @@ use Rattle.exec_tree.specs.declared.classes.ValueKind.TheVariants as value
 use Rattle.exec_tree.specs.declared.classes.TestKind.{TestKind}
 use Rattle.exec_tree.specs.declared.classes.TestKind.TheVariants as test
 use Rattle.exec_tree.specs.Classes.{value_kind, test_kind}
-use Rattle.exec_tree.specs.Terms.{Term, Written, Sum, Difference, Product, Test, Constant, Not, term_by, operand_by, operand_term, entity_term, term_from, operand_test_by, operand_test, listed, list_test, test_by, entity_test, test_from}
+use Rattle.nc_expr.specs.Term.{Term, Written, Sum, Difference, Product, Test, Constant, Not}
+use Rattle.exec_tree.specs.Terms.{term_by, operand_by, operand_term, entity_term, term_from, operand_test_by, operand_test, listed, list_test, test_by, entity_test, test_from}
 
 no_way : false ≡ true → ⊥
 no_way h = absurd (cc)

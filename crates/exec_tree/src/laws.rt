@@ -92,5 +92,6 @@ pub fn main_workplan_is_executable(store: &Store)
     ensures walk { AreExecutables store.now (walk_of (entity_at store.now) (main_of store.now)) }
 {
     store.resolved();
-    let _ = (store.len(), store.project());
+    store.len();
+    store.project();
 }

@@ -2,9 +2,9 @@
 
 ghost use Rattle.std.specs.Prelude.{◌≡◌, ◌<◌, ◌≤◌, ◌+◌, max, map, length, slice_get, Option, Some, None, ◌++◌, OnOk, IfOk, IfErr, IfSome, option_map, option_copied};
 ghost use Rattle.project_store.specs.Entities.{entity_at};
-ghost use Rattle.exec_tree.specs.declared.limits.TheConstants.{MAX_CHANNELS};
-ghost use Rattle.exec_tree.specs.Exec.{number_or_none};
-ghost use Rattle.exec_tree.specs.Arena.{IsClosed, AreShaped};
+ghost use Rattle.exec_tree.specs.declared.limits.TheConstants.{MAX_CHANNELS, MAX_TREE_NESTING};
+ghost use Rattle.exec_tree.specs.Exec.{number_or_none, nodes, AreDistinct, HasChoices};
+ghost use Rattle.exec_tree.specs.Arena.{tree_down, IsClosed, AreShaped};
 ghost use Rattle.exec_tree.specs.Said.{bare_of, said_by, said_of};
 ghost use Rattle.exec_tree.specs.TreeFault.{first_tree_fault, first_fault_from, seen_before};
 ghost use Rattle.exec_tree.specs.Walked.{IsFault, place_from};
@@ -38,8 +38,14 @@ impl Model for Tree {
     ghost use Rattle.std.specs.Prelude.{map};
     ghost use Rattle.exec_tree.specs.Said.{bare_of, said_by};
     ghost use Rattle.exec_tree.specs.Built.{TreeValue, IsTree};
+    ghost use Rattle.exec_tree.specs.contracts.node.BareNode as bare_node;
+    ghost use Rattle.exec_tree.specs.contracts.kind.Kind as kind;
+    ghost use Rattle.nc_expr.specs.Codes.{coded_term, coded_test};
+    ghost use Rattle.std.specs.Coded.{codes};
 
     ghost Value = { TreeValue };
+
+    ghost coded = { Prim.hlevel (codes, coded_term, coded_test, bare_node.the_row.coded, kind.the_row.coded) };
 
     ghost view = { λ t. record { nodes = map bare_of t.nodes.items; said = map said_by t.nodes.items; channels = t.channels } };
 
@@ -104,12 +110,15 @@ impl Tree {
         self.nodes.len() as u32
     }
 
-    /// The nodes by place. The elements of a node lie after it, and are as many as its kind has.
+    /// The nodes by place. The elements of a node lie after it, and are as many as its kind has. Each number stands once, and each selective
+    /// has an element.
     pub fn nodes(&self) -> &[Node]
         ensures nodes { map bare_of result.now ≡ self.now.nodes }
         ensures said { map said_by result.now ≡ self.now.said }
-        ensures shaped { AreShaped (map bare_of result.now) }
-        ensures closed { IsClosed (map bare_of result.now) 0 (length (map bare_of result.now)) }
+        ensures shaped { AreShaped self.now.nodes }
+        ensures closed { IsClosed self.now.nodes 0 (length self.now.nodes) }
+        ensures distinct { AreDistinct (nodes (tree_down self.now.nodes MAX_TREE_NESTING 0)) }
+        ensures choices { HasChoices (tree_down self.now.nodes MAX_TREE_NESTING 0) }
     {
         self.nodes.as_slice()
     }

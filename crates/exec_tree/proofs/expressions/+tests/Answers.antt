@@ -1,6 +1,7 @@
 use Rattle.std.proofs.Common.{ℕ, ◌≡◌, ◌<◌, ◌∙◌, ap, sym, subst, arith}
 use Rattle.std.specs.Prelude.{option_copied, IfOk}
-use Rattle.exec_tree.specs.Terms.{Test, test_of, test_from}
+use Rattle.nc_expr.specs.Term.{Test, test_of}
+use Rattle.exec_tree.specs.Terms.{test_from}
 use Rattle.exec_tree.proofs.LevelLemmas.{test_zero, test_none, test_some, list_on}
 use Rattle.exec_tree.proofs.expressions.+tests.Goals as goal
 

@@ -1,5 +1,6 @@
 use Rattle.std.proofs.Common.{◌≡◌, ℕ, ◌+◌, ◌*◌, ◌≤◌, length, drop}
-use Rattle.exec_tree.specs.Terms.{test_of, test_from, list_test}
+use Rattle.nc_expr.specs.Term.{test_of}
+use Rattle.exec_tree.specs.Terms.{test_from, list_test}
 use Rattle.exec_tree.proofs.expressions.+tests.Given as goal
 
 abbrev pub decreases-cond_at : goal.decreases-cond_at

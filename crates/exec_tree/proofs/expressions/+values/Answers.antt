@@ -1,6 +1,6 @@
 use Rattle.std.proofs.Common.{◌≡◌, ◌<◌, ◌∙◌, ap, sym, subst, arith}
 use Rattle.std.specs.Prelude.{option_copied, IfOk}
-use Rattle.exec_tree.specs.Terms.{Term, term_of}
+use Rattle.nc_expr.specs.Term.{Term, term_of}
 use Rattle.exec_tree.proofs.LevelLemmas.{term_zero, term_none, term_some}
 use Rattle.exec_tree.proofs.expressions.+values.Goals as goal
 
