@@ -7,6 +7,8 @@ use Rattle.std.specs.BTreeMap.{BTreeMap, get}
 use Rattle.entity_types.specs.declared.entity.Entity.{Entity}
 use Rattle.project_store.specs.Build.{projects_of}
 use Rattle.exec_tree.specs.declared.limits.TheConstants.{MAX_TREE_NESTING, MAX_CHANNELS}
+use Rattle.exec_tree.specs.Exec.{AreDistinct, HasChoices}
+use Rattle.exec_tree.specs.Exec as exec
 use Rattle.exec_tree.specs.declared.kind.Kind.{Kind}
 use Rattle.exec_tree.specs.declared.kind.Kind.TheVariants as kind
 use Rattle.exec_tree.specs.declared.node.BareNode.{BareNode}
@@ -57,12 +59,14 @@ abbrev pub main_in : List BareNode → ℕ
 main_in [] = 0
 main_in (node ∷ nodes) = unwrap_or node.number 0
 
--- the map tells each node's place; the elements of a node lie after it, and are as many as its kind has; the steps are those of the nodes;
--- there aren't too many channels
+-- the map tells each node's place; the elements of a node lie after it, and are as many as its kind has; in the tree each number stands once
+-- and each selective has an element; the steps are those of the nodes; there aren't too many channels
 pub record IsTree (places : BTreeMap ℕ ℕ) (nodes : List BareNode) (steps channels : List ℕ) : Type 0 where
   pub at : (q : ℕ) → get nat_cmp places q ≡ place_from 0 nodes q
   pub closed : IsClosed nodes 0 (length nodes)
   pub shaped : AreShaped nodes
+  pub distinct : AreDistinct (exec.nodes (tree_down nodes MAX_TREE_NESTING 0))
+  pub choices : HasChoices (tree_down nodes MAX_TREE_NESTING 0)
   pub small : length nodes < 2 ^ 32
   pub steps_are : steps ≡ steps_in nodes
   pub few : length channels ≤ MAX_CHANNELS

@@ -1,5 +1,5 @@
 -- The tree of executables (ISO 14649-10, executables): shape and numbers.
-use Rattle.std.specs.Prelude.{◌≡◌, ◌<◌, ◌+◌, ◌==◌, ℕ, Bool, false, List, [], ◌∷◌, ◌++◌, Option, Some, None}
+use Rattle.std.specs.Prelude.{◌≡◌, ◌<◌, ◌==◌, ℕ, suc, Bool, false, List, [], ◌∷◌, ◌++◌, Option, Some, None}
 use Rattle.std.specs.List.{list_any}
 
 -- what an executable without elements does
@@ -66,7 +66,7 @@ abbrev mutual
 -- how many elements there are
 abbrev pub count : Execs → ℕ
 count None_left = 0
-count (Then e es) = count es + 1
+count (Then e es) = suc (count es)
 
 -- the number is one of these
 abbrev pub has : List ℕ → ℕ → Bool

@@ -6,7 +6,7 @@ use Rattle.exec_tree.specs.declared.kind.Kind.TheVariants as kind
 use Rattle.exec_tree.specs.declared.role.Role.{Role}
 use Rattle.exec_tree.specs.declared.role.Role.TheVariants.{Cutting, Waiting, Free}
 use Rattle.exec_tree.specs.Executable.{kind_at}
-use Rattle.exec_tree.specs.Said.{Said, Plain, Branches, Repeats, Assigns, Awaits, target_of}
+use Rattle.exec_tree.specs.Said.{Said, Plain, Awaits, target_of}
 
 -- the role of a node of this kind, which waits for this mark where it is a wait
 abbrev pub role_by : Kind → ℕ → Role

@@ -1,5 +1,5 @@
 -- The expressions of a store as plain trees, each reference written out (ISO 14649-10, expressions).
-use Rattle.std.specs.Prelude.{ℕ, zero, suc, ℤ, pos, Bool, true, false, List, [], ◌∷◌, Option}
+use Rattle.std.specs.Prelude.{ℕ, zero, suc, pos, Bool, true, false, List, [], ◌∷◌, Option}
 use Rattle.std.specs.Option.{option_map_or}
 use Rattle.entity_types.specs.declared.field.Field.{Field}
 use Rattle.entity_types.specs.declared.field.Field.TheVariants.{Ref, Value}

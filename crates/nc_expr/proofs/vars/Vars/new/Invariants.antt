@@ -6,4 +6,4 @@ use Rattle.nc_expr.proofs.vars.Vars.new.Given as goal
 
 -- the map has the pairs so far
 abbrev pub invariant-loop-pair : goal.invariant-loop-pair
-invariant-loop-pair l = (n : ℕ) → get nat_cmp l.values n ≡ last_value (take l.pair-index l.opening) n
+invariant-loop-pair l = (m : ℕ) → get nat_cmp l.values m ≡ last_value (take l.pair-index l.opening) m
