@@ -44,8 +44,8 @@ mutual
       (subst (λ (b : Bool). WhereTrue b (c n ≡ Left (going es [])) (Unit {0})) (sym (never_shared es h)) tt, void_each c es v h)
   void_stands c (NonSeq n None_left) v h = (v, tt)
   void_stands c (NonSeq n (Then e es)) v h =
-      let f : (0 == count es + 1) ≡ false = grind (arith, nat_tests) in
-      let g : first_of_two [] (if 0 == count es + 1 then [] else n ∷ []) ≡ n ∷ [] = rw f refl in
+      let f : (0 == count (Then e es)) ≡ false = grind (arith, nat_tests) in
+      let g : first_of_two [] (if 0 == count (Then e es) then [] else n ∷ []) ≡ n ∷ [] = rw f refl in
       absurd (let z : n ∷ [] ≡ [] = sym g ∙ h in cc)
   void_stands c (Sel n es) v h = absurd (cc)
   void_stands c (If n a b) v h = absurd (cc)
