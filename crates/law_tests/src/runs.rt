@@ -3,10 +3,10 @@
 ghost use Rattle.exec_tree.specs.Exec.{nodes, AreDistinct};
 ghost use Rattle.trace_law.specs.Below.{tree_in};
 
-use crate::rows::{PROJECTS, Row, Word};
+use crate::rows::PROJECTS;
 use crate::trees::tree;
 use exec_tree::Tree;
-use nc_base::Verdict;
+use nc_base::{Number, Verdict};
 use path_blocks::Block;
 use run_log::Entry;
 use std::alloc::Global;
@@ -14,23 +14,22 @@ use std::process::Abort;
 use std::test::Fail;
 use trace_law::{first_stray, next, part, whole};
 
-/// The entry of a word of the table: a letter as in the log, the node, and the version, the block, the index or the answer. A value is its number
-/// of thousandths, and an edit is accepted.
-fn entry((letter, n, k): Word) -> Entry {
+/// The entry of a letter, a node, and one more number. Each block is a dwell, a value is in thousandths, and an edit is accepted.
+fn entry_of(letter: &str, n: Number, k: u32) -> Entry {
     match letter {
-        'D' => Entry::Dispatch { n, v: k },
-        'B' => Entry::Block {
+        "D" => Entry::Dispatch { n, v: k },
+        "B" => Entry::Block {
             n,
             k,
             b: Block::Dwell { ms: 5 },
         },
-        'E' => Entry::End { n },
-        'P' => Entry::Pick { n, k },
-        'T' => Entry::Test { n, yes: k == 1 },
-        'A' => Entry::Assign { n, x: i64::from(k) },
-        'S' => Entry::Set { n },
-        'W' => Entry::Pass { n },
-        'M' => Entry::Note { n },
+        "E" => Entry::End { n },
+        "P" => Entry::Pick { n, k },
+        "T" => Entry::Test { n, yes: k == 1 },
+        "A" => Entry::Assign { n, x: i64::from(k) },
+        "S" => Entry::Set { n },
+        "W" => Entry::Pass { n },
+        "M" => Entry::Note { n },
         _ => Entry::Edit {
             i: n,
             verdict: Verdict::Accepted,
@@ -38,12 +37,27 @@ fn entry((letter, n, k): Word) -> Entry {
     }
 }
 
-fn entries(alloc: Global, words: &[Word]) -> Result<Vec<Entry>, Fail> {
+/// The entry of a word: a letter, a number, and one more behind a point.
+fn entry(word: &str) -> Result<Entry, Fail> {
+    let (name, more) = word.split_once('.').unwrap_or((word, "0"));
+    let (letter, n) = name.split_at_checked(1).unwrap_or(("", ""));
+    Ok(entry_of(letter, n.parse::<u32>()?, more.parse::<u32>()?))
+}
+
+fn entries(alloc: Global, words: &str) -> Result<Vec<Entry>, Fail> {
     let mut t = Vec::new(alloc);
-    for word in words {
-        t.push(entry(*word))?;
+    for word in words.split_whitespace() {
+        t.push(entry(word)?)?;
     }
     Ok(t)
+}
+
+fn numbers(alloc: Global, words: &str) -> Result<Vec<Number>, Fail> {
+    let mut all = Vec::new(alloc);
+    for word in words.split_whitespace() {
+        all.push(word.parse::<u32>()?)?;
+    }
+    Ok(all)
 }
 
 // Stops unless the list is a run so far, a whole run, and free of strays as wanted.
@@ -52,42 +66,47 @@ fn expect_decided(
     alloc: Global,
     tree: &Tree,
     t: &[Entry],
-    row: &Row,
+    row: &str,
+    wanted: &str,
 ) -> Result<(), Fail>
     requires { AreDistinct (nodes (tree_in tree.now)) }
 {
-    let wanted = row.1;
-    assert_eq!(rt; part(alloc, tree, t)?, wanted.is_some(), "{row:?}");
-    assert_eq!(rt; whole(alloc, tree, t)?, wanted == Some(&[]), "{row:?}");
+    assert_eq!(rt; part(alloc, tree, t)?, wanted != "no", "{row}");
+    assert_eq!(rt; whole(alloc, tree, t)?, wanted == "whole", "{row}");
     assert_eq!(rt;
-        first_stray(alloc, tree, t)?.is_none(),
-        wanted.is_some(),
-        "{row:?}"
+        first_stray(alloc, tree, t)?.is_some(),
+        wanted == "no",
+        "{row}"
     );
     Ok(())
 }
 
-// Stops unless the run can go on at these nodes.
+// Stops unless the run can go on at these nodes. Of a list that is no run so far nothing is wanted.
 fn expect_next(
     rt: &impl Abort,
     alloc: Global,
     tree: &Tree,
     t: &[Entry],
-    row: &Row,
+    row: &str,
+    wanted: &str,
 ) -> Result<(), Fail> {
-    if let Some(wanted) = row.1 {
-        assert_eq!(rt; next(alloc, tree, t)?.as_slice(), wanted, "{row:?}");
+    if wanted == "no" {
+        return Ok(());
     }
+    let going = numbers(alloc, if wanted == "whole" { "" } else { wanted })?;
+    assert_eq!(rt; next(alloc, tree, t)?.as_slice(), going.as_slice(), "{row}");
     Ok(())
 }
 
-fn expect_rows(rt: &impl Abort, alloc: Global, tree: &Tree, rows: &[Row]) -> Result<(), Fail>
+// Stops unless each row is right.
+fn expect_rows(rt: &impl Abort, alloc: Global, tree: &Tree, rows: &str) -> Result<(), Fail>
     requires { AreDistinct (nodes (tree_in tree.now)) }
 {
-    for row in rows {
-        let t = entries(alloc, row.0)?;
-        expect_decided(rt, alloc, tree, t.as_slice(), row)?;
-        expect_next(rt, alloc, tree, t.as_slice(), row)?;
+    for row in rows.lines() {
+        let (words, wanted) = row.split_once("| ").unwrap_or(("", ""));
+        let t = entries(alloc, words)?;
+        expect_decided(rt, alloc, tree, t.as_slice(), row, wanted)?;
+        expect_next(rt, alloc, tree, t.as_slice(), row, wanted)?;
     }
     Ok(())
 }

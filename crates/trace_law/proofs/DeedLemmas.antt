@@ -1,16 +1,14 @@
 -- What a node does next, by its kind.
-use Rattle.std.specs.Prelude.{◌≡◌, ℕ, Bool, true, false, ◌==◌, unwrap_or, List, [], ◌∷◌, Option}
+use Rattle.std.specs.Prelude.{◌≡◌, ℕ, true, false, ◌==◌, unwrap_or, List, [], Option}
 use Rattle.std.proofs.Common.{refl, sym, subst, ◌∙◌, arith}
 use Rattle.std.proofs.lemmas.Bool.Decides.{nat_tests}
-use Rattle.exec_tree.specs.Exec.{Exec, nodes, has, count}
-use Rattle.exec_tree.specs.Arena.{to_execs, first_of, number_or_zero, of_kind, tree_down, HasArity}
+use Rattle.exec_tree.specs.Exec.{Exec, count}
+use Rattle.exec_tree.specs.Arena.{to_execs, first_of, number_or_zero, of_kind}
 use Rattle.exec_tree.specs.declared.kind.Kind.{Kind}
 use Rattle.exec_tree.specs.declared.kind.Kind.TheVariants as kind
-use Rattle.exec_tree.specs.declared.node.BareNode.{BareNode}
 use Rattle.run_log.specs.declared.entry.Entry.{Entry}
 use Rattle.trace_law.specs.Own.{picks}
-use Rattle.trace_law.specs.Offer.{Picks, offer, offer_among}
-use Rattle.trace_law.specs.Below.{trees_down}
+use Rattle.trace_law.specs.Offer.{Picks, offer}
 use Rattle.trace_law.specs.Last.{body_from}
 use Rattle.trace_law.proofs.ArenaLemmas.{number_is}
 use Rattle.trace_law.proofs.LoopLemmas.{body_is}

@@ -1,16 +1,15 @@
 -- Where loops and choices can go on.
-use Rattle.std.specs.Prelude.{◌≡◌, ◌<◌, ◌≤◌, ◌+◌, ℕ, zero, suc, Bool, true, false, not, if◌then◌else◌, is_some, List, [], ◌∷◌, ◌++◌, length, slice_get, Option, Some, None}
+use Rattle.std.specs.Prelude.{◌≡◌, ◌<◌, ◌≤◌, ℕ, zero, suc, Bool, true, false, not, if◌then◌else◌, is_some, List, [], ◌∷◌, length, Option, Some, None}
 use Rattle.std.specs.Option.{option_or, option_map_or}
-use Rattle.std.proofs.Common.{refl, sym, ap, subst, ◌∙◌, arith, drop, get_or, add-one, drop-cons}
-use Rattle.exec_tree.specs.Exec.{Exec, nodes, nodes_all, count}
+use Rattle.std.proofs.Common.{refl, sym, ap, ◌∙◌, arith, get_or}
+use Rattle.exec_tree.specs.Exec.{Exec, nodes, count}
 use Rattle.exec_tree.specs.Arena.{to_execs, first_of, second_of, tree_down}
 use Rattle.exec_tree.specs.declared.node.BareNode.{BareNode}
 use Rattle.run_log.specs.declared.entry.Entry.{Entry}
 use Rattle.run_log.specs.declared.entry.Entry.TheVariants.{Dispatch, Block, End, Pick, Test, Assign, Set, Pass, Note, Edit}
 use Rattle.trace_law.specs.Own.{Turn, Tested, test_of, turns, turns_by, lead}
 use Rattle.trace_law.specs.Elements.{nodes_at}
-use Rattle.trace_law.specs.Next.{next, next_at, next_in_order, next_each, next_work, next_loop, next_of_last, first_of_two}
-use Rattle.trace_law.specs.Offer.{offer, offer_among}
+use Rattle.trace_law.specs.Next.{next, next_at, next_work, next_loop, next_of_last, first_of_two}
 use Rattle.trace_law.specs.Cells.{last_answer, last_body}
 use Rattle.trace_law.specs.Below.{trees_down}
 use Rattle.trace_law.specs.Last.{is_end, goes_on_from, answer_from, body_from, last_from}

@@ -1,5 +1,5 @@
 -- The state of a run, read off its entries so far.
-use Rattle.std.specs.Prelude.{ℕ, ◌+◌, if◌then◌else◌, option_map, is_some, Bool, true, false, ◌==◌, ◌||◌, not, List, [], ◌∷◌, ◌++◌, Option, Some, None}
+use Rattle.std.specs.Prelude.{ℕ, ◌+◌, if◌then◌else◌, option_map, is_some, Bool, true, false, ◌==◌, ◌||◌, not, List, [], ◌∷◌, Option, Some, None}
 use Rattle.std.specs.List.{filter_map}
 use Rattle.trace_law.specs.Of.{has_some, number_of}
 use Rattle.run_log.specs.declared.entry.Entry.{Entry}

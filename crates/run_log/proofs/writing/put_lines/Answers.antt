@@ -1,4 +1,4 @@
-use Rattle.std.proofs.Common.{◌≡◌, ◌+◌, ◌++◌, List, ℕ, [], ◌∷◌, length, take, drop, get_or, append_assoc, append-nil, refl, arith, subst, ap, ◌∙◌, sym}
+use Rattle.std.proofs.Common.{◌+◌, ◌++◌, List, ℕ, [], ◌∷◌, length, take, drop, get_or, append-nil, arith, subst, ap, ◌∙◌, sym}
 use Rattle.run_log.specs.LinesFrom.{lines_from}
 use Rattle.std.proofs.lemmas.Result.{err_from_is_err_and}
 use Rattle.nc_outside.specs.Outside.{Appends, AppendsFront}

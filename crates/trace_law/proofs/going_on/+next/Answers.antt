@@ -2,7 +2,7 @@ use Rattle.std.proofs.Common.{◌≡◌, ◌∙◌, ◌<◌, ◌-◌, ap, sym, s
 use Rattle.std.specs.Prelude.{option_copied, IfOk}
 use Rattle.exec_tree.specs.Exec.{Exec, NonSeq}
 use Rattle.exec_tree.specs.Arena.{of_kind, to_execs}
-use Rattle.exec_tree.specs.Said.{bare_of, kind_of_node}
+use Rattle.exec_tree.specs.Said.{bare_of}
 use Rattle.exec_tree.specs.declared.kind.Kind.{Kind}
 use Rattle.trace_law.specs.Next.{next}
 use Rattle.trace_law.specs.Below.{trees_down}

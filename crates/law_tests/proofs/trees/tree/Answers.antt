@@ -1,4 +1,0 @@
-use Rattle.law_tests.proofs.trees.tree.Goals as goal
-
-pub returns : goal.returns
-returns c = ?
