@@ -1,5 +1,5 @@
 -- Entries of some nodes and of others in one list.
-use Rattle.std.proofs.Common.{◌≡◌, ℕ, Bool, true, false, cond, eqb, List, [], ◌∷◌, ◌++◌, Option, Some, None, refl, sym, ap, ◌∙◌, inl, inr}
+use Rattle.std.proofs.Common.{◌≡◌, ℕ, Bool, true, false, cond, eqb, List, [], ◌∷◌, ◌++◌, Option, None, refl, sym, ap, ◌∙◌, inl, inr}
 use Rattle.std.specs.Prelude.{filter, ◌⊎◌, ◌||◌}
 use Rattle.std.proofs.lemmas.Bool.{eqb-true, eq-eqb}
 use Rattle.std.proofs.lemmas.List.Elements.{filter-append}
@@ -7,7 +7,7 @@ use Rattle.run_log.specs.declared.entry.Entry.{Entry}
 use Rattle.run_log.specs.declared.entry.Entry.TheVariants.{Dispatch, Block, End, Pick, Test, Assign, Set, Pass, Note, Edit}
 use Rattle.exec_tree.specs.Exec.{has}
 use Rattle.trace_law.specs.Of.{is_of, only}
-use Rattle.trace_law.specs.State.{stage_step, stage_from, stage, is_open}
+use Rattle.trace_law.specs.State.{stage_step, stage_from, is_open}
 
 pub no_way : true ≡ false → ⊥
 no_way e = absurd (cc)

@@ -1,6 +1,6 @@
 -- Every front of a run of workingsteps in a row is legal, and only the whole of it is done.
 use Rattle.std.proofs.Common.{◌≡◌, ℕ, zero, suc, ◌<◌, ◌≤◌, Bool, true, false, cond, eqb, List, [], ◌∷◌, ◌++◌, length, take, drop, Option, Some, None, refl, sym, ap, subst, ◌∙◌, append_assoc, append-nil, arith, inl, inr, length-take}
-use Rattle.std.specs.Prelude.{IsSomeAnd, ◌||◌, ◌&&◌, ◌==◌, not, if◌then◌else◌}
+use Rattle.std.specs.Prelude.{IsSomeAnd, ◌&&◌, ◌==◌, if◌then◌else◌}
 use Rattle.std.specs.List.{flat_map, list_any, list_all}
 use Rattle.std.proofs.lemmas.Bool.{eqb-true}
 use Rattle.std.proofs.lemmas.List.{take-append-drop, length-take-le}
@@ -19,13 +19,13 @@ use Rattle.trace_law.specs.Part.{Part}
 use Rattle.trace_law.specs.Next.{next}
 use Rattle.trace_law.specs.State.{is_open}
 use Rattle.path_blocks.specs.declared.step.Step.{Step}
-use Rattle.run_law.specs.Fits.{Fits, FitsNode, plain, is_plain, is_busy, may_go_on, is_enabled, next_of}
+use Rattle.run_law.specs.Fits.{Fits, FitsNode, plain, may_go_on, is_enabled, next_of}
 use Rattle.run_law.specs.Legal.{Legal}
 use Rattle.run_law.specs.Rules.{Rules}
 use Rattle.run_law.specs.Endings.{IsDone, IsBlocked, EndsSo, waits, waits_by}
 use Rattle.run_core.specs.PlainRules.{plain_rules}
 use Rattle.run_core.specs.PlainRun.{entries_of, numbers_of, works, GivePaths, Grows}
-use Rattle.run_core.proofs.Among.{tested, no_test, of_itself, same, either, apart_back}
+use Rattle.run_core.proofs.Among.{tested, no_test, same, either, apart_back}
 use Rattle.run_core.proofs.Segments.{AllPlain, all_both, all_front, segment_plain}
 use Rattle.run_core.proofs.Standing.{Stands, stands, whole_parts}
 

@@ -16,7 +16,7 @@ use Rattle.trace_law.specs.Whole.{IsWork, Whole, EachWhole}
 use Rattle.trace_law.specs.Part.{Part, InOrder}
 use Rattle.trace_law.specs.Next.{next_in_order}
 use Rattle.path_blocks.specs.declared.step.Step.{Step}
-use Rattle.trace_law.specs.State.{stage, is_open}
+use Rattle.trace_law.specs.State.{is_open}
 use Rattle.run_law.specs.Fits.{HasValues}
 use Rattle.run_core.specs.PlainRules.{plain_rules}
 use Rattle.run_core.specs.PlainRun.{segment, entries_of, numbers_of, works, GivePaths}
