@@ -145,6 +145,7 @@ of_refused ws holds x (reasons.Definition n fault) told is text = of_no_project 
 
 caused : (ws : List (List ℕ)) (holds : List ℕ → Option (List ℕ)) (s : Status) (x : List ℕ) → IsTold ws holds → IsRight ws holds s x → Caused ws holds s x
 caused ws holds statuses.Done x told is = of_log ws holds statuses.Done x is.0 _ told is.1 refl
+caused ws holds statuses.Blocked x told is = of_log ws holds statuses.Blocked x is.0 _ told is.1 refl
 caused ws holds statuses.RunLimit x told is = of_log ws holds statuses.RunLimit x is.0 _ told is.1 refl
 caused ws holds statuses.Written x told is = of_written ws holds x told is
 caused ws holds (statuses.BadWords place) x told is = record { meaning = Bad place; means = is.0; file = Err reasons.TooLong; read = refl; follows = (refl, is.1) }

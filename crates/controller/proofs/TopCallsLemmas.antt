@@ -36,6 +36,7 @@ replayed ws holds name limit answers.Help asked is = absurd is
 replayed ws holds name limit answers.Version asked is = absurd is
 replayed ws holds name limit (answers.Refused reason) asked is = (refused ws holds name reason (inl (limit, asked)) is, refl)
 replayed ws holds name limit (answers.Ran t endings.Done) asked is = (t, record { name = name; limit = limit; asked = asked; project = is.0; held = is.1; run = is.2 }, refl)
+replayed ws holds name limit (answers.Ran t endings.Blocked) asked is = (t, record { name = name; limit = limit; asked = asked; project = is.0; held = is.1; run = is.2 }, refl)
 replayed ws holds name limit (answers.Ran t endings.Limit) asked is = (t, record { name = name; limit = limit; asked = asked; project = is.0; held = is.1; run = is.2 }, refl)
 replayed ws holds name limit (answers.Shown d) asked is = absurd is
 
@@ -68,6 +69,7 @@ answered ws before after a statuses.ReadFault is put = absurd (subst (λ (s : St
 answered ws before after a statuses.NoMemory is put = absurd (subst (λ (s : Status). IsRight ws before.holds s (answer_text a)) put.0 is)
 answered ws before after a statuses.WriteFault is put = (answer_status a, answer_text a, is, record { failed = put.0; front = put.1 })
 answered ws before after a statuses.Done is put = (answer_text a, subst (λ (s : Status). IsRight ws before.holds s (answer_text a)) put.0 is, put.1)
+answered ws before after a statuses.Blocked is put = (answer_text a, subst (λ (s : Status). IsRight ws before.holds s (answer_text a)) put.0 is, put.1)
 answered ws before after a statuses.RunLimit is put = (answer_text a, subst (λ (s : Status). IsRight ws before.holds s (answer_text a)) put.0 is, put.1)
 answered ws before after a statuses.Written is put = (answer_text a, subst (λ (s : Status). IsRight ws before.holds s (answer_text a)) put.0 is, put.1)
 answered ws before after a (statuses.BadWords place) is put = (answer_text a, subst (λ (s : Status). IsRight ws before.holds s (answer_text a)) put.0 is, put.1)

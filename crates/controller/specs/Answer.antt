@@ -23,6 +23,7 @@ answer_text (Shown d) = blocks_text (path_of d)
 
 abbrev pub ending_status : Ending → Status
 ending_status endings.Done = statuses.Done
+ending_status endings.Blocked = statuses.Blocked
 ending_status endings.Limit = statuses.RunLimit
 
 -- the status of an answer that is written

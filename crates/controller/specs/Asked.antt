@@ -15,7 +15,7 @@ use Rattle.run_log.specs.declared.entry.Ending.TheVariants as endings
 use Rattle.run_log.specs.LogText.{text_of}
 use Rattle.run_log.specs.BlocksText.{blocks_text}
 use Rattle.controller.specs.declared.status.Status.{Status}
-use Rattle.controller.specs.declared.status.Status.TheVariants.{Done, RunLimit, Written, BadWords, ProjectRefused, ReadFault, WriteFault, NoMemory}
+use Rattle.controller.specs.declared.status.Status.TheVariants.{Done, Blocked, RunLimit, Written, BadWords, ProjectRefused, ReadFault, WriteFault, NoMemory}
 use Rattle.controller.specs.Words.{help_line, version_line, is_line, IsReplay, IsPath, NamesProject, AreBadAt}
 use Rattle.controller.specs.Texts.{bad_words_line, help_text, version_text}
 use Rattle.controller.specs.Refusal.{refusal_line}
@@ -74,6 +74,7 @@ IsWritten words holds text =
 -- The words, with what the files hold, have this status and this text. That a file or the sink fails, and that memory runs out, lies in neither.
 abbrev pub IsRight : List (List ℕ) → (List ℕ → Option (List ℕ)) → Status → List ℕ → Type 0
 IsRight words holds Done text = (t : List Entry) × IsLog words holds t endings.Done × (text ≡ text_of t endings.Done)
+IsRight words holds Blocked text = (t : List Entry) × IsLog words holds t endings.Blocked × (text ≡ text_of t endings.Blocked)
 IsRight words holds RunLimit text = (t : List Entry) × IsLog words holds t endings.Limit × (text ≡ text_of t endings.Limit)
 IsRight words holds Written text = IsWritten words holds text
 IsRight words holds (BadWords place) text = AreBadAt words place × (text ≡ bad_words_line place)

@@ -1,10 +1,11 @@
 -- The exit status of the program.
 use Rattle.std.specs.Prelude.{ℕ}
 use Rattle.controller.specs.declared.status.Status.{Status}
-use Rattle.controller.specs.declared.status.Status.TheVariants.{Done, RunLimit, Written, BadWords, ProjectRefused, ReadFault, WriteFault, NoMemory}
+use Rattle.controller.specs.declared.status.Status.TheVariants.{Done, Blocked, RunLimit, Written, BadWords, ProjectRefused, ReadFault, WriteFault, NoMemory}
 
 abbrev pub code_of : Status → ℕ
 code_of Done = 0
+code_of Blocked = 1
 code_of RunLimit = 2
 code_of Written = 0
 code_of (BadWords i) = 3

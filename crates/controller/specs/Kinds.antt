@@ -12,9 +12,10 @@ pub data Kind : Type 0 where
   Refused : Kind
   Failed : Kind
 
--- a run that is done and a run that stands at its limit are of one kind
+-- a run that is done, one that is blocked and one that stands at its limit are of one kind
 abbrev pub kind_of : Status → Kind
 kind_of statuses.Done = Ran
+kind_of statuses.Blocked = Ran
 kind_of statuses.RunLimit = Ran
 kind_of statuses.Written = Wrote
 kind_of (statuses.BadWords place) = BadWords

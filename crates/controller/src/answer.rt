@@ -105,6 +105,7 @@ impl Answer {
             Answer::Help | Answer::Version | Answer::Shown(_) => Status::Written,
             Answer::Refused(reason) => Status::ProjectRefused(*reason),
             Answer::Ran(_, Ending::Done) => Status::Done,
+            Answer::Ran(_, Ending::Blocked) => Status::Blocked,
             Answer::Ran(_, Ending::Limit) => Status::RunLimit,
         }
     }

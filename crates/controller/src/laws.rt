@@ -18,7 +18,7 @@ pub fn word_laws()
 
 /// The words, and what the file holds that they name, have one kind of answer: bad words, a project that is refused, a text that is written and a run
 /// exclude each other. Of the first three there is one only, with its place or its reason, and its text. Of words that name a file this says something
-/// where it is told what the file holds. That Done and RunLimit exclude each other, and that a run has one log, it doesn't say: that wants a law by
+/// where it is told what the file holds. That Done, Blocked and RunLimit exclude each other, and that a run has one log, it doesn't say: that wants a law by
 /// which a legal run is determined, and none is proved yet. It does nothing.
 pub fn answer_laws()
     // two statuses that are right for the words are of one kind

@@ -10,6 +10,8 @@ use project_read::ProjectReason;
 pub enum Status {
     /// The whole project ran, and its log is written.
     Done,
+    /// Wherever the run could go on, it waits for a mark that isn't set, and its log is written.
+    Blocked,
     /// The log has as many entries as the words let it have, the run could go on, and the log is written.
     RunLimit,
     /// What the words asked for is written.
@@ -33,6 +35,7 @@ impl Status {
     {
         match self {
             Status::Done | Status::Written => 0,
+            Status::Blocked => 1,
             Status::RunLimit => 2,
             Status::BadWords(_) => 3,
             Status::ProjectRefused(_) => 4,

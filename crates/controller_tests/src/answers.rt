@@ -524,6 +524,7 @@ fn statuses_have_their_codes(rt: HostRuntime) {
     for (status, code) in [
         (Status::Done, 0),
         (Status::Written, 0),
+        (Status::Blocked, 1),
         (Status::RunLimit, 2),
         (Status::BadWords(4), 3),
         (Status::ProjectRefused(ProjectReason::NotBuilt), 4),

@@ -1,1 +1,3 @@
+pub mod Variables
+pub mod ProjectRules
 pub mod Run

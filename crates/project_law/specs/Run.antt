@@ -6,15 +6,17 @@ use Rattle.path_blocks.specs.Path.{path_of}
 use Rattle.project_store.specs.Entities.{entity_at}
 use Rattle.step_def.specs.DefOf.{def_of}
 use Rattle.project_read.specs.Holds.{Project}
+use Rattle.exec_tree.specs.Exec.{Exec, Work, Plan, Execs, None_left, Then}
 use Rattle.run_log.specs.declared.entry.Entry.{Entry}
 use Rattle.run_log.specs.declared.entry.Ending.{Ending}
-use Rattle.trace_law.specs.Exec.{Exec, Work, Plan, Execs, NoMore, Then}
-use Rattle.run_core.specs.Legal.{Legal}
-use Rattle.run_core.specs.Endings.{EndsSo}
+use Rattle.run_law.specs.Rules.{Rules}
+use Rattle.run_law.specs.Legal.{Legal}
+use Rattle.run_law.specs.Endings.{EndsSo}
+use Rattle.run_law.specs.PlainRules.{plain_rules}
 
 -- workingsteps as the elements of a workplan
 abbrev pub elements : List ℕ → Execs
-elements [] = NoMore
+elements [] = None_left
 elements (n ∷ ns) = Then (Work n) (elements ns)
 
 -- the tree of a project
@@ -25,8 +27,12 @@ tree_of_project p = Plan (Some p.main) (elements p.steps)
 abbrev pub paths_in : Project → ℕ → Option (List Block)
 paths_in p n = option_map path_of (result_ok (def_of (entity_at p.entities) n))
 
+-- the rules of a project: its tree and its paths, and nothing that changes them
+abbrev pub rules_of_project : Project → Rules
+rules_of_project p = plain_rules (paths_in p) (tree_of_project p)
+
 -- the log is a legal run of the project, and it ends so under this limit
 pub record IsRun (p : Project) (limit : ℕ) (t : List Entry) (ending : Ending) : Type 0 where
-  pub legal : Legal (paths_in p) (tree_of_project p) t
-  pub ends : EndsSo (tree_of_project p) t limit ending
+  pub legal : Legal (rules_of_project p) t
+  pub ends : EndsSo (rules_of_project p) limit t ending
   pub within : length t ≤ limit

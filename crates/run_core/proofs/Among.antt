@@ -1,12 +1,13 @@
 -- Entries of some nodes and of others in one list.
-use Rattle.std.proofs.Common.{◌≡◌, ℕ, Bool, true, false, cond, eqb, List, [], ◌∷◌, ◌++◌, Option, Some, None, refl, sym, ap, ◌∙◌, inl, inr}
+use Rattle.std.proofs.Common.{◌≡◌, ℕ, Bool, true, false, cond, eqb, List, [], ◌∷◌, ◌++◌, Option, None, refl, sym, ap, ◌∙◌, inl, inr}
 use Rattle.std.specs.Prelude.{filter, ◌⊎◌, ◌||◌}
 use Rattle.std.proofs.lemmas.Bool.{eqb-true, eq-eqb}
 use Rattle.std.proofs.lemmas.List.Elements.{filter-append}
 use Rattle.run_log.specs.declared.entry.Entry.{Entry}
-use Rattle.run_log.specs.declared.entry.Entry.TheVariants.{Dispatch, Block, End}
-use Rattle.trace_law.specs.Of.{has, is_of, only}
-use Rattle.run_core.specs.State.{dispatches, since, since_by, is_open}
+use Rattle.run_log.specs.declared.entry.Entry.TheVariants.{Dispatch, Block, End, Pick, Test, Assign, Set, Pass, Note, Edit}
+use Rattle.exec_tree.specs.Exec.{has}
+use Rattle.trace_law.specs.Of.{is_of, only}
+use Rattle.trace_law.specs.State.{stage_step, stage_from, is_open}
 
 pub no_way : true ≡ false → ⊥
 no_way e = absurd (cc)
@@ -60,36 +61,39 @@ lacks_front ns a b e = (append_none (only ns a) (only ns b) (sym (filter-append 
 pub past_others : (ns : List ℕ) (a b : List Entry) → only ns a ≡ [] → only ns (a ++ b) ≡ only ns b
 past_others ns a b e = rw (filter-append (is_of ns) a b, e) refl
 
--- a node without an entry wasn't dispatched
-pub since_none : (m : ℕ) (t : List Entry) → only (m ∷ []) t ≡ [] → since m t ≡ None
-since_none m [] e = refl
-since_none m (x ∷ t) e =
+-- an entry of another node opens and ends nothing
+stage_other : (m : ℕ) (o : Option ℕ) (x : Entry) → is_of (m ∷ []) x ≡ false → stage_step m o x ≡ o
+stage_other m o (Dispatch n v) f = let apart : eqb n m ≡ false = apart_back m n (either (eqb m n) false f).0 in rw apart refl
+stage_other m o (Block n k b) f = let apart : eqb n m ≡ false = apart_back m n (either (eqb m n) false f).0 in rw apart refl
+stage_other m o (End n) f = let apart : eqb n m ≡ false = apart_back m n (either (eqb m n) false f).0 in rw apart refl
+stage_other m o (Pick n k) f = refl
+stage_other m o (Test n b) f = refl
+stage_other m o (Assign n v) f = refl
+stage_other m o (Set n) f = refl
+stage_other m o (Pass n) f = refl
+stage_other m o (Note n) f = refl
+stage_other m o (Edit i v) f = refl
+
+-- nor do entries of others before a list
+pub stage_past : (m : ℕ) (o : Option ℕ) (a b : List Entry) → only (m ∷ []) a ≡ [] → stage_from m o (a ++ b) ≡ stage_from m o b
+stage_past m o [] b e = refl
+stage_past m o (x ∷ a) b e =
+    let h = filter_head (is_of (m ∷ [])) x a e in
+    ap (λ (p : Option ℕ). stage_from m p (a ++ b)) (stage_other m o x h.0) ∙ stage_past m o a b h.1
+
+-- a node without an entry isn't open
+pub stage_none : (m : ℕ) (o : Option ℕ) (t : List Entry) → only (m ∷ []) t ≡ [] → stage_from m o t ≡ o
+stage_none m o [] e = refl
+stage_none m o (x ∷ t) e =
     let h = filter_head (is_of (m ∷ [])) x t e in
-    rw (since_none m t h.1) (first x h.0)
-  where
-    first : (x : Entry) → is_of (m ∷ []) x ≡ false → since_by None (dispatches m x) t ≡ None
-    first (Dispatch n v) f = let apart : eqb n m ≡ false = apart_back m n (either (eqb m n) false f).0 in rw apart refl
-    first (Block n k b) f = refl
-    first (End n) f = refl
+    ap (λ (p : Option ℕ). stage_from m p t) (stage_other m o x h.0) ∙ stage_none m o t h.1
 
 pub closed_none : (m : ℕ) (t : List Entry) → only (m ∷ []) t ≡ [] → is_open m t ≡ false
-closed_none m t e = rw (since_none m t e) refl
+closed_none m t e = rw (stage_none m None t e) refl
 
--- entries of others before a list don't change when a node was dispatched
-pub since_past : (m : ℕ) (a b : List Entry) → only (m ∷ []) a ≡ [] → since m (a ++ b) ≡ since m b
-since_past m [] b e = refl
-since_past m (x ∷ a) b e =
-    let h = filter_head (is_of (m ∷ [])) x a e in
-    rw (since_past m a b h.1) (first x h.0 (since m b))
-  where
-    none : (o : Option (List Entry)) → since_by o false (a ++ b) ≡ o
-    none None = refl
-    none (Some r) = refl
-
-    first : (x : Entry) → is_of (m ∷ []) x ≡ false → (o : Option (List Entry)) → since_by o (dispatches m x) (a ++ b) ≡ o
-    first (Dispatch n v) f o = let apart : eqb n m ≡ false = apart_back m n (either (eqb m n) false f).0 in rw apart (none o)
-    first (Block n k y) f o = none o
-    first (End n) f o = none o
+pub stage_both : (m : ℕ) (o : Option ℕ) (a b : List Entry) → stage_from m o (a ++ b) ≡ stage_from m (stage_from m o a) b
+stage_both m o [] b = refl
+stage_both m o (x ∷ a) b = stage_both m (stage_step m o x) a b
 
 -- a list that is cut lies in the first of two, or past it
 pub split : (u : List Entry) (x : Entry) (w a b : List Entry) → u ++ x ∷ w ≡ a ++ b

@@ -1,18 +1,18 @@
 -- The entries of one workingstep.
-use Rattle.std.proofs.Common.{◌≡◌, ℕ, suc, ◌+◌, Bool, true, false, cond, eqb, List, [], ◌∷◌, ◌++◌, length, Option, Some, None, refl, sym, ap, subst, ◌∙◌, arith, inl, inr}
-use Rattle.std.specs.Prelude.{◌⊎◌, slice_get, count_by}
-use Rattle.std.specs.List.{list_any}
-use Rattle.std.proofs.lemmas.List.Sums.{sum_by-cons}
+use Rattle.std.proofs.Common.{◌≡◌, ℕ, suc, ◌+◌, true, false, eqb, List, [], ◌∷◌, ◌++◌, length, Option, Some, None, refl, sym, ap, subst, ◌∙◌, arith, inl, inr}
+use Rattle.std.specs.Prelude.{◌⊎◌, slice_get}
 use Rattle.path_blocks.specs.declared.block.Block.{Block}
 use Rattle.run_log.specs.declared.entry.Entry.{Entry}
 use Rattle.run_log.specs.declared.entry.Entry.TheVariants as entries
+use Rattle.exec_tree.specs.Exec.{Exec}
 use Rattle.trace_law.specs.Of.{number_of, only}
 use Rattle.trace_law.specs.Whole.{IsCut, IsWork}
 use Rattle.trace_law.specs.Next.{next_work}
-use Rattle.run_core.specs.State.{cuts, ends, since, is_open}
-use Rattle.run_core.specs.Fits.{HasValues}
+use Rattle.trace_law.specs.State.{stage_step, stage_from, stage, is_open}
+use Rattle.run_law.specs.Fits.{HasValues, is_plain}
+use Rattle.run_law.specs.PlainRules.{plain_rules}
 use Rattle.run_core.specs.PlainRun.{cut_from, segment}
-use Rattle.run_core.proofs.Among.{same, since_none}
+use Rattle.run_core.proofs.Among.{same, stage_both, stage_none}
 
 -- ---- the entries of a segment are of its node
 
@@ -35,7 +35,7 @@ segment_of_other m n bs e = rw (e, cut_of_other m n 0 bs e) refl
 -- ---- a segment is a whole run of its node
 
 cut_is : (n k : ℕ) (bs : List Block) → IsCut n k (cut_from n k bs ++ entries.End n ∷ [])
-cut_is n k [] = (refl, refl)
+cut_is n k [] = refl
 cut_is n k (b ∷ bs) = (refl, refl, cut_is n (k + 1) bs)
 
 pub segment_is_work : (n : ℕ) (bs : List Block) → IsWork n (segment n bs)
@@ -47,23 +47,16 @@ segment_is_work n bs = (refl, cut_is n 0 bs)
 -- the blocks so far of n, behind its dispatch
 pub record Cutting (n : ℕ) (t : List Entry) : Type 0 where
   pub of_n : only (n ∷ []) t ≡ t
-  pub no_dispatch : since n t ≡ None
-  pub no_end : list_any (ends n) t ≡ false
-  pub counted : count_by (cuts n) t ≡ length t
+  pub counted : (k : ℕ) → stage_from n (Some k) t ≡ Some (k + length t)
   pub goes_on : next_work n t ≡ n ∷ []
 
 nothing_cut : (n : ℕ) → Cutting n []
-nothing_cut n = record { of_n = refl; no_dispatch = refl; no_end = refl; counted = refl; goes_on = refl }
-
-one : (test : Bool) (count len : ℕ) → test ≡ true → count ≡ len → cond test 1 0 + count ≡ suc len
-one test count len t e = rw (t, e) (omega arith)
+nothing_cut n = record { of_n = refl; counted = λ k. (let e : k ≡ k + 0 = omega arith in ap (λ (j : ℕ). Some j) e); goes_on = refl }
 
 one_more_cut : (n k : ℕ) (b : Block) (t : List Entry) → Cutting n t → Cutting n (entries.Block n k b ∷ t)
 one_more_cut n k b t cut = record {
   of_n = rw (same n, cut.of_n) refl;
-  no_dispatch = rw cut.no_dispatch refl;
-  no_end = cut.no_end;
-  counted = sum_by-cons (λ (x : Entry). cond (cuts n x) 1 0) (entries.Block n k b) t ∙ one (eqb n n) (count_by (cuts n) t) (length t) (same n) cut.counted;
+  counted = λ j. (let e : j + 1 + length t ≡ j + suc (length t) = omega arith in rw (same n) (cut.counted (j + 1) ∙ ap (λ (i : ℕ). Some i) e));
   goes_on = cut.goes_on;
 }
 
@@ -100,14 +93,16 @@ pub record Inside (n : ℕ) (path : List Block) (t : List Entry) (x : Entry) : T
   pub of_n : only (n ∷ []) t ≡ t
   pub x_of_n : number_of x ≡ Some n
   pub goes_on : next_work n t ≡ n ∷ []
-  pub values : (paths : ℕ → Option (List Block)) → paths n ≡ Some path → HasValues paths t x
+  pub values : (paths : ℕ → Option (List Block)) (tree : Exec) → paths n ≡ Some path → HasValues (plain_rules paths tree) t x
 
-values_at : (n : ℕ) (path : List Block) (t : List Entry) (x : Entry) → Cutting n t → Follows n 0 path (length t) x → (paths : ℕ → Option (List Block)) → paths n ≡ Some path → HasValues paths (entries.Dispatch n 0 ∷ t) x
-values_at n path t x cut (inl (b, at, is)) paths given =
+values_at : (n : ℕ) (path : List Block) (t : List Entry) (x : Entry) → Cutting n t → Follows n 0 path (length t) x → (paths : ℕ → Option (List Block)) (tree : Exec) → paths n ≡ Some path
+    → HasValues (plain_rules paths tree) (entries.Dispatch n 0 ∷ t) x
+values_at n path t x cut (inl (b, at, is)) paths tree given =
     let i : 0 + length t ≡ length t = omega arith in
-    subst (λ (y : Entry). HasValues paths (entries.Dispatch n 0 ∷ t) y) (sym is) (rw (given, i) at)
-values_at n path t x cut (inr (len, is)) paths given =
-    subst (λ (y : Entry). HasValues paths (entries.Dispatch n 0 ∷ t) y) (sym is) (rw (given, cut.no_dispatch, same n, cut.counted) len)
+    subst (λ (y : Entry). HasValues (plain_rules paths tree) (entries.Dispatch n 0 ∷ t) y) (sym is) (rw (given, i) at)
+values_at n path t x cut (inr (len, is)) paths tree given =
+    let count : 0 + length t ≡ length path = omega (arith, len) in
+    subst (λ (y : Entry). HasValues (plain_rules paths tree) (entries.Dispatch n 0 ∷ t) y) (sym is) (rw (given, same n) (cut.counted 0 ∙ ap (λ (i : ℕ). Some i) count))
 
 number_at : (n k : ℕ) (path : List Block) (i : ℕ) (x : Entry) → Follows n k path i x → number_of x ≡ Some n
 number_at n k path i x (inl (b, at, is)) = ap number_of is
@@ -117,7 +112,7 @@ pub inside : (n : ℕ) (path : List Block) (t : List Entry) (x : Entry) (w : Lis
 unfolding segment
 inside n path [] x w e =
     let head : x ≡ entries.Dispatch n 0 = cc in
-    record { of_n = refl; x_of_n = ap number_of head; goes_on = refl; values = λ paths given. subst (λ (y : Entry). HasValues paths [] y) (sym head) refl }
+    record { of_n = refl; x_of_n = ap number_of head; goes_on = refl; values = λ paths tree given. subst (λ (y : Entry). HasValues (plain_rules paths tree) [] y) (sym head) refl }
 inside n path (y ∷ t) x w e =
     let head : y ≡ entries.Dispatch n 0 = cc in
     let tail : t ++ x ∷ w ≡ cut_from n 0 path ++ entries.End n ∷ [] = cc in
@@ -131,18 +126,45 @@ inside n path (y ∷ t) x w e =
 
 -- ---- behind a segment
 
+-- a node that has ended
+segment_closed : (n : ℕ) (path : List Block) → stage n (segment n path) ≡ None
+unfolding segment
+segment_closed n path =
+    let first : stage_step n None (entries.Dispatch n 0) ≡ Some 0 = rw (same n) refl in
+    ap (λ (o : Option ℕ). stage_from n o (cut_from n 0 path ++ entries.End n ∷ [])) first ∙ ended n 0 0 path
+  where
+    ended : (n j k : ℕ) (bs : List Block) → stage_from n (Some j) (cut_from n k bs ++ entries.End n ∷ []) ≡ None
+    ended n j k [] = rw (same n) refl
+    ended n j k (b ∷ bs) =
+        let one : stage_step n (Some j) (entries.Block n k b) ≡ Some (j + 1) = rw (same n) refl in
+        ap (λ (o : Option ℕ). stage_from n o (cut_from n (k + 1) bs ++ entries.End n ∷ [])) one ∙ ended n (j + 1) (k + 1) bs
+
 -- a node that has ended, and wasn't dispatched again, is closed
 pub closed_behind : (n : ℕ) (path : List Block) (t : List Entry) → only (n ∷ []) t ≡ [] → is_open n (segment n path ++ t) ≡ false
-unfolding segment
-closed_behind n path t e = rw (no_dispatch n 0 path t e, same n, has_end n 0 path t) refl
-  where
-    no_dispatch : (n k : ℕ) (bs : List Block) (t : List Entry) → only (n ∷ []) t ≡ [] → since n ((cut_from n k bs ++ entries.End n ∷ []) ++ t) ≡ None
-    no_dispatch n k [] t e = rw (since_none n t e) refl
-    no_dispatch n k (b ∷ bs) t e = rw (no_dispatch n (k + 1) bs t e) refl
+closed_behind n path t e = rw (stage_both n None (segment n path) t, segment_closed n path, stage_none n None t e) refl
 
-    has_end : (n k : ℕ) (bs : List Block) (t : List Entry) → list_any (ends n) ((cut_from n k bs ++ entries.End n ∷ []) ++ t) ≡ true
-    has_end n k [] t = rw (same n) refl
-    has_end n k (b ∷ bs) t = has_end n (k + 1) bs t
+-- ---- no entry is an edit
+
+-- each is of a node
+abbrev pub AllPlain : List Entry → Type 0
+AllPlain [] = Unit {0}
+AllPlain (x ∷ t) = (is_plain x ≡ true) × AllPlain t
+
+pub all_both : (a b : List Entry) → AllPlain a → AllPlain b → AllPlain (a ++ b)
+all_both [] b p q = q
+all_both (x ∷ a) b p q = (p.0, all_both a b p.1 q)
+
+pub all_front : (a b : List Entry) → AllPlain (a ++ b) → AllPlain a
+all_front [] b p = tt
+all_front (x ∷ a) b p = (p.0, all_front a b p.1)
+
+cut_plain : (n k : ℕ) (bs : List Block) → AllPlain (cut_from n k bs ++ entries.End n ∷ [])
+cut_plain n k [] = (refl, tt)
+cut_plain n k (b ∷ bs) = (refl, cut_plain n (k + 1) bs)
+
+pub segment_plain : (n : ℕ) (bs : List Block) → AllPlain (segment n bs)
+unfolding segment
+segment_plain n bs = (refl, cut_plain n 0 bs)
 
 -- nothing is left to do behind a segment
 pub segment_over : (n : ℕ) (path : List Block) → next_work n (segment n path) ≡ []

@@ -1,5 +1,5 @@
 -- Where a run of workingsteps in a row stands.
-use Rattle.std.proofs.Common.{◌≡◌, ℕ, Bool, true, false, eqb, List, [], ◌∷◌, ◌++◌, Option, Some, refl, sym, ap, subst, ◌∙◌, append_assoc, append-nil, inl, inr}
+use Rattle.std.proofs.Common.{◌≡◌, ℕ, Bool, true, false, eqb, List, [], ◌∷◌, ◌++◌, Option, Some, None, refl, sym, ap, subst, ◌∙◌, append_assoc, append-nil, inl, inr}
 use Rattle.std.specs.Prelude.{◌||◌}
 use Rattle.std.specs.List.{flat_map}
 use Rattle.std.proofs.lemmas.Bool.{eqb-true}
@@ -9,16 +9,18 @@ use Rattle.path_blocks.specs.declared.block.Block.{Block}
 use Rattle.path_blocks.specs.Path.{path_of}
 use Rattle.run_log.specs.declared.entry.Entry.{Entry}
 use Rattle.run_log.specs.declared.entry.Entry.TheVariants as entries
-use Rattle.trace_law.specs.Exec.{Work}
-use Rattle.trace_law.specs.Of.{has, number_of, is_of, only, joined, AreDistinct}
+use Rattle.exec_tree.specs.Exec.{Exec, Work, has, AreDistinct}
+use Rattle.trace_law.specs.Of.{number_of, is_of, only}
+use Rattle.trace_law.specs.Elements.{joined}
 use Rattle.trace_law.specs.Whole.{IsWork, Whole, EachWhole}
 use Rattle.trace_law.specs.Part.{Part, InOrder}
 use Rattle.trace_law.specs.Next.{next_in_order}
 use Rattle.path_blocks.specs.declared.step.Step.{Step}
-use Rattle.run_core.specs.State.{is_open}
-use Rattle.run_core.specs.Fits.{HasValues}
+use Rattle.trace_law.specs.State.{is_open}
+use Rattle.run_law.specs.Fits.{HasValues}
+use Rattle.run_law.specs.PlainRules.{plain_rules}
 use Rattle.run_core.specs.PlainRun.{segment, entries_of, numbers_of, works, GivePaths}
-use Rattle.run_core.proofs.Among.{no_test, tested, either, same, of_itself, apart_back, lacks_both, lacks_front, past_others, closed_none, since_past, split}
+use Rattle.run_core.proofs.Among.{no_test, tested, either, same, of_itself, apart_back, lacks_both, lacks_front, past_others, closed_none, stage_past, split}
 use Rattle.run_core.proofs.Segments.{segment_of, segment_of_other, segment_is_work, segment_over, inside, closed_behind}
 
 -- ---- lists without entries of some steps
@@ -84,7 +86,7 @@ none_order (s ∷ ss) t lack = (
 -- ---- where the run stands
 
 -- before x the run of the steps has come to u
-pub record Stands (paths : ℕ → Option (List Block)) (ss : List Step) (u : List Entry) (x : Entry) : Type 0 where
+pub record Stands (paths : ℕ → Option (List Block)) (tree : Exec) (ss : List Step) (u : List Entry) (x : Entry) : Type 0 where
   pub n : ℕ
   pub among : has (numbers_of ss) n ≡ true
   pub of_n : number_of x ≡ Some n
@@ -92,7 +94,7 @@ pub record Stands (paths : ℕ → Option (List Block)) (ss : List Step) (u : Li
   pub order : InOrder (works ss) (u ++ x ∷ [])
   pub goes_on : next_in_order (works ss) u ≡ n ∷ []
   pub others_closed : (m : ℕ) → eqb m n ≡ false → is_open m u ≡ false
-  pub values : HasValues paths u x
+  pub values : HasValues (plain_rules paths tree) u x
 
 of_one : (n : ℕ) (x : Entry) → number_of x ≡ Some n → is_of (n ∷ []) x ≡ true
 of_one n x e = rw e (of_itself n)
@@ -100,9 +102,9 @@ of_one n x e = rw e (of_itself n)
 kept_whole : (n : ℕ) (u : List Entry) (x : Entry) → only (n ∷ []) u ≡ u → number_of x ≡ Some n → only (n ∷ []) (u ++ x ∷ []) ≡ u ++ x ∷ []
 kept_whole n u x of_u of_x = rw (filter-append (is_of (n ∷ [])) u (x ∷ []), of_u, of_one n x of_x) refl
 
-stands_inside : (paths : ℕ → Option (List Block)) (s : Step) (ss : List Step) (u : List Entry) (x : Entry) (v : List Entry)
-    → has (numbers_of ss) s.number ≡ false → paths s.number ≡ Some (path_of s.def) → u ++ x ∷ v ≡ entries_of s → Stands paths (s ∷ ss) u x
-stands_inside paths s ss u x v distinct given e =
+stands_inside : (paths : ℕ → Option (List Block)) (tree : Exec) (s : Step) (ss : List Step) (u : List Entry) (x : Entry) (v : List Entry)
+    → has (numbers_of ss) s.number ≡ false → paths s.number ≡ Some (path_of s.def) → u ++ x ∷ v ≡ entries_of s → Stands paths tree (s ∷ ss) u x
+stands_inside paths tree s ss u x v distinct given e =
     let n = s.number in
     let path = path_of s.def in
     let at = inside n path u x v e in
@@ -122,16 +124,24 @@ stands_inside paths s ss u x v distinct given e =
       );
       goes_on = rw (at.of_n, at.goes_on) refl;
       others_closed = λ m apart. closed_none m u (lacks_front (m ∷ []) u (x ∷ v) (subst (λ (t : List Entry). only (m ∷ []) t ≡ []) (sym e) (segment_of_other m n path apart)));
-      values = at.values paths given;
+      values = at.values paths tree given;
     }
 
-values_past : (paths : ℕ → Option (List Block)) (n m : ℕ) (path : List Block) (v : List Entry) (x : Entry) → number_of x ≡ Some m → eqb m n ≡ false → HasValues paths v x → HasValues paths (segment n path ++ v) x
-values_past paths n m path v (entries.Dispatch k version) of_m apart values = values
-values_past paths n m path v (entries.Block k i b) of_m apart values = values
-values_past paths n m path v (entries.End k) of_m apart values =
+values_past : (paths : ℕ → Option (List Block)) (tree : Exec) (n m : ℕ) (path : List Block) (v : List Entry) (x : Entry) → number_of x ≡ Some m → eqb m n ≡ false
+    → HasValues (plain_rules paths tree) v x → HasValues (plain_rules paths tree) (segment n path ++ v) x
+values_past paths tree n m path v (entries.End k) of_m apart values =
     let k_is : k ≡ m = cc in
     let other : eqb k n ≡ false = rw k_is apart in
-    rw (since_past k (segment n path) v (segment_of_other k n path other)) values
+    stage_past k None (segment n path) v (segment_of_other k n path other) ∙ values
+values_past paths tree n m path v (entries.Dispatch k version) of_m apart values = values
+values_past paths tree n m path v (entries.Block k i b) of_m apart values = values
+values_past paths tree n m path v (entries.Pick k i) of_m apart values = values
+values_past paths tree n m path v (entries.Test k b) of_m apart values = values
+values_past paths tree n m path v (entries.Assign k y) of_m apart values = values
+values_past paths tree n m path v (entries.Set k) of_m apart values = values
+values_past paths tree n m path v (entries.Pass k) of_m apart values = values
+values_past paths tree n m path v (entries.Note k) of_m apart values = values
+values_past paths tree n m path v (entries.Edit i verdict) of_m apart values = values
 
 apart_among : (m n : ℕ) (ns : List ℕ) → has ns m ≡ true → has ns n ≡ false → eqb m n ≡ false
 apart_among m n ns yes_m no_n =
@@ -144,9 +154,9 @@ or_true : (a b : Bool) → b ≡ true → (a || b) ≡ true
 or_true true b e = refl
 or_true false b e = e
 
-stands_past : (paths : ℕ → Option (List Block)) (s : Step) (ss : List Step) (v : List Entry) (x : Entry) (w : List Entry)
-    → has (numbers_of ss) s.number ≡ false → v ++ x ∷ w ≡ flat_map entries_of ss → Stands paths ss v x → Stands paths (s ∷ ss) (entries_of s ++ v) x
-stands_past paths s ss v x w distinct e at =
+stands_past : (paths : ℕ → Option (List Block)) (tree : Exec) (s : Step) (ss : List Step) (v : List Entry) (x : Entry) (w : List Entry)
+    → has (numbers_of ss) s.number ≡ false → v ++ x ∷ w ≡ flat_map entries_of ss → Stands paths tree ss v x → Stands paths tree (s ∷ ss) (entries_of s ++ v) x
+stands_past paths tree s ss v x w distinct e at =
     let n = s.number in
     let path = path_of s.def in
     let seg = segment n path in
@@ -171,24 +181,24 @@ stands_past paths s ss v x w distinct e at =
       goes_on = rw (first_v, segment_over n path, lift_next ss seg v lacks) at.goes_on;
       others_closed = λ m other. elim (tested (eqb m n)) [
         | inl t ↦ subst (λ (k : ℕ). is_open k (seg ++ v) ≡ false) (sym (eqb-true m n t)) (closed_behind n path v v_lacks)
-        | inr f ↦ rw (since_past m seg v (segment_of_other m n path f)) (at.others_closed m other)
+        | inr f ↦ rw (stage_past m None seg v (segment_of_other m n path f)) (at.others_closed m other)
       ];
-      values = values_past paths n at.n path v x at.of_n apart at.values;
+      values = values_past paths tree n at.n path v x at.of_n apart at.values;
     }
 
-pub stands : (paths : ℕ → Option (List Block)) (ss : List Step) (u : List Entry) (x : Entry) (w : List Entry)
-    → AreDistinct (numbers_of ss) → GivePaths paths ss → u ++ x ∷ w ≡ flat_map entries_of ss → Stands paths ss u x
-stands paths [] u x w distinct given e = absurd (none u e)
+pub stands : (paths : ℕ → Option (List Block)) (tree : Exec) (ss : List Step) (u : List Entry) (x : Entry) (w : List Entry)
+    → AreDistinct (numbers_of ss) → GivePaths paths ss → u ++ x ∷ w ≡ flat_map entries_of ss → Stands paths tree ss u x
+stands paths tree [] u x w distinct given e = absurd (none u e)
   where
     none : (t : List Entry) → t ++ x ∷ w ≡ [] → ⊥
     none [] e = absurd (cc)
     none (z ∷ t) e = absurd (cc)
-stands paths (s ∷ ss) u x w distinct given e =
+stands paths tree (s ∷ ss) u x w distinct given e =
     elim (split u x w (entries_of s) (flat_map entries_of ss) (e ∙ flat_map-cons entries_of s ss)) [
-      | inl (v, is) ↦ stands_inside paths s ss u x v distinct.0 given.0 is
+      | inl (v, is) ↦ stands_inside paths tree s ss u x v distinct.0 given.0 is
       | inr (v, is, then_on) ↦
-          subst (λ (t : List Entry). Stands paths (s ∷ ss) t x) (sym is)
-          (stands_past paths s ss v x w distinct.0 then_on (stands paths ss v x w distinct.1 given.1 then_on))
+          subst (λ (t : List Entry). Stands paths tree (s ∷ ss) t x) (sym is)
+          (stands_past paths tree s ss v x w distinct.0 then_on (stands paths tree ss v x w distinct.1 given.1 then_on))
     ]
 
 -- ---- the whole run

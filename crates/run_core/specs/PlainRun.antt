@@ -4,7 +4,7 @@ use Rattle.path_blocks.specs.declared.block.Block.{Block}
 use Rattle.path_blocks.specs.Path.{path_of}
 use Rattle.run_log.specs.declared.entry.Entry.{Entry}
 use Rattle.run_log.specs.declared.entry.Entry.TheVariants as entries
-use Rattle.trace_law.specs.Exec.{Work, Execs, NoMore, Then}
+use Rattle.exec_tree.specs.Exec.{Work, Execs, None_left, Then}
 use Rattle.path_blocks.specs.declared.step.Step.{Step}
 
 -- the entries of these blocks of n, counted from k
@@ -26,7 +26,7 @@ numbers_of steps = map (λ step. step.number) steps
 
 -- the steps as elements of a workplan
 abbrev pub works : List Step → Execs
-works [] = NoMore
+works [] = None_left
 works (step ∷ steps) = Then (Work step.number) (works steps)
 
 -- the paths are those of the steps' definitions

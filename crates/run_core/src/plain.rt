@@ -5,10 +5,10 @@ ghost use Rattle.std.specs.List.{flat_map};
 ghost use Rattle.path_blocks.specs.declared.block.Block.{Block};
 ghost use Rattle.path_blocks.specs.declared.limits.TheConstants.{MAX_BLOCKS};
 ghost use Rattle.run_log.specs.declared.entry.Ending.TheVariants as endings;
-ghost use Rattle.trace_law.specs.Exec.{Plan};
-ghost use Rattle.trace_law.specs.Of.{AreDistinct};
-ghost use Rattle.run_core.specs.Legal.{Legal};
-ghost use Rattle.run_core.specs.Endings.{EndsSo};
+ghost use Rattle.exec_tree.specs.Exec.{Plan, AreDistinct};
+ghost use Rattle.run_law.specs.Legal.{Legal};
+ghost use Rattle.run_law.specs.Endings.{EndsSo};
+ghost use Rattle.run_law.specs.PlainRules.{plain_rules};
 ghost use Rattle.run_core.specs.PlainRun.{cut_from, entries_of, numbers_of, works, GivePaths, Grows};
 
 use crate::planning::plan_of;
@@ -16,7 +16,7 @@ use nc_base::{NoMemory, Number};
 use path_blocks::{Block, Step};
 use run_log::{Ending, Entry, Log};
 use std::alloc::Global;
-use trace_law::whole_has_no_next;
+use trace_law::laws::{part_of_own_nodes, whole_where_nothing_is_next};
 
 /// Puts an entry at the log's end, or says false where the log has as many entries as it may have.
 fn put(log: &mut Log, entry: Entry, limit: u32) -> Result<bool, NoMemory>
@@ -87,11 +87,12 @@ pub fn run(alloc: Global, steps: &[Step], limit: u32) -> Result<(Log, Ending), N
     requires { AreDistinct (numbers_of steps.now) }
     ensures legal { IfOk result (λ ran. (paths : ℕ → Option (List Block)) (main : Option ℕ)
         → GivePaths paths steps.now
-        → Legal paths (Plan main (works steps.now)) ran.0) }
-    ensures ends { IfOk result (λ ran. (main : Option ℕ) → EndsSo (Plan main (works steps.now)) ran.0 limit ran.1) }
+        → Legal (plain_rules paths (Plan main (works steps.now))) ran.0) }
+    ensures ends { IfOk result (λ ran. (paths : ℕ → Option (List Block)) (main : Option ℕ) → EndsSo (plain_rules paths (Plan main (works steps.now))) limit ran.0 ran.1) }
     ensures within { IfOk result (λ ran. length ran.0 ≤ limit) }
 {
-    whole_has_no_next();
+    whole_where_nothing_is_next();
+    part_of_own_nodes();
     let mut log = Log::new(alloc);
     let ending = if put_steps(alloc, &mut log, steps, limit)? {
         Ending::Done

@@ -1,11 +1,12 @@
 -- A text that is put line by line, and what a sink has taken where a put fails.
-use Rattle.std.proofs.Common.{◌≡◌, ℕ, ◌+◌, ◌≤◌, ◌<◌, get_or, drop, List, [], ◌∷◌, ◌++◌, length, take, Option, Some, None, Result, Ok, Err, refl, sym, ap, subst, ◌∙◌, append_assoc, suc, add-one, drop-cons, arith, length-append}
+use Rattle.std.proofs.Common.{◌≡◌, ℕ, ◌+◌, ◌<◌, get_or, drop, List, [], ◌∷◌, ◌++◌, length, take, Option, Some, None, Result, Ok, Err, refl, sym, ap, subst, ◌∙◌, append_assoc, add-one, drop-cons, arith, length-append}
 use Rattle.std.proofs.Math.Seq.{take-append-add, take-suc, take-length}
 use Rattle.std.proofs.lemmas.List.{take-append-le, take-append-drop, append-nil}
 use Rattle.std.proofs.lemmas.Grind.{flat_map-append}
 use Rattle.std.specs.List.{flat_map}
 use Rattle.std.specs.Prelude.{OnOk, OnErr}
 use Rattle.run_log.specs.Line.{line}
+use Rattle.run_log.specs.LinesFrom.{lines_from}
 use Rattle.nc_outside.specs.Outside.{Appends, AppendsFront}
 
 pub front_after : (old mid new : Option (List ℕ)) (a b rest : List ℕ) → Appends old mid a → AppendsFront mid new b → AppendsFront old new (a ++ (b ++ rest))
@@ -62,3 +63,36 @@ on_err (Err e) p f = f p
 -- all lines were put
 pub all_lines : {X : Type 0} (f : X → List ℕ) (start : List ℕ) (t : List X) (i : ℕ) (tail : List ℕ) → length t ≡ i → (start ++ flat_map f (take i t)) ++ tail ≡ start ++ (flat_map f t ++ tail)
 all_lines f start t i tail e = rw (← e, take-length t) (append_assoc start (flat_map f t) tail)
+
+-- ---- lines that are told with what came before
+
+pub lines_both : {E : Type 0} (line : List E → E → List ℕ) (before a b : List E) → lines_from line before (a ++ b) ≡ lines_from line before a ++ lines_from line (before ++ a) b
+lines_both line before [] b = rw append-nil refl
+lines_both line before (x ∷ a) b =
+    rw (lines_both line (before ++ x ∷ []) a b, append_assoc before (x ∷ []) a) (sym (append_assoc (line before x) (lines_from line (before ++ x ∷ []) a) (lines_from line (before ++ x ∷ a) b)))
+
+-- the lines of the first i entries were put, and then the next one
+pub told_more : {E : Type 0} (line : List E → E → List ℕ) (start : List ℕ) (t : List E) (i : ℕ) (d : E) → i < length t
+    → start ++ lines_from line [] (take (i + 1) t) ≡ (start ++ lines_from line [] (take i t)) ++ line (take i t) (get_or t i d)
+told_more line start t i d lt =
+    let e = get_or t i d in
+    let next : take (i + 1) t ≡ take i t ++ (e ∷ []) = rw add-one (take-suc t i d lt) in
+    let lines : lines_from line [] (take (i + 1) t) ≡ lines_from line [] (take i t) ++ line (take i t) e =
+    ap (lines_from line []) next ∙ lines_both line [] (take i t) (e ∷ []) ∙ ap (λ (m : List ℕ). lines_from line [] (take i t) ++ m) (append-nil (line (take i t) e)) in
+    rw lines (sym (append_assoc start (lines_from line [] (take i t)) (line (take i t) e)))
+
+-- behind the lines of the first i entries stand the next one and the others
+pub told_split : {E : Type 0} (line : List E → E → List ℕ) (start : List ℕ) (t : List E) (i : ℕ) (d : E) (tail : List ℕ) → i < length t
+    → (start ++ lines_from line [] (take i t)) ++ (line (take i t) (get_or t i d) ++ (lines_from line (take i t ++ get_or t i d ∷ []) (drop (i + 1) t) ++ tail))
+    ≡ start ++ (lines_from line [] t ++ tail)
+told_split line start t i d tail lt =
+    let e = get_or t i d in
+    let rest : drop i t ≡ e ∷ drop (i + 1) t = rw add-one (drop-cons t i d lt) in
+    let whole : lines_from line [] t ≡ lines_from line [] (take i t) ++ (line (take i t) e ++ lines_from line (take i t ++ e ∷ []) (drop (i + 1) t)) =
+    ap (lines_from line []) (sym (take-append-drop i t)) ∙ lines_both line [] (take i t) (drop i t) ∙ ap (λ m. lines_from line [] (take i t) ++ lines_from line (take i t) m) rest in
+    rw whole (simp append_assoc)
+
+-- all lines were put
+pub all_told : {E : Type 0} (line : List E → E → List ℕ) (start : List ℕ) (t : List E) (i : ℕ) (tail : List ℕ) → length t ≡ i
+    → (start ++ lines_from line [] (take i t)) ++ tail ≡ start ++ (lines_from line [] t ++ tail)
+all_told line start t i tail e = rw (← e, take-length t) (append_assoc start (lines_from line [] t) tail)

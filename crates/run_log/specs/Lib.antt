@@ -1,3 +1,4 @@
 pub mod Line
+pub mod LinesFrom
 pub mod LogText
 pub mod BlocksText

@@ -1,6 +1,6 @@
 //! What a run log is made of.
 
-use nc_base::{ItemList, Number};
+use nc_base::{ItemList, Number, Verdict};
 use path_blocks::Block;
 
 /// The most entries that a log may be asked to have (this profile).
@@ -15,6 +15,20 @@ pub enum Entry {
     Block { n: Number, k: u32, b: Block },
     /// Workingstep `n` has all its blocks.
     End { n: Number },
+    /// Of the elements of non-sequential or selective `n`, the one at index `k`, counted from 0, is chosen.
+    Pick { n: Number, k: u32 },
+    /// The condition of if or while `n` is tested: whether it holds.
+    Test { n: Number, yes: bool },
+    /// Assignment `n` gives its variable the value `x`, in thousandths.
+    Assign { n: Number, x: i64 },
+    /// The mark of `n` is set.
+    Set { n: Number },
+    /// Wait `n` is passed, since its mark is set.
+    Pass { n: Number },
+    /// Message `n` is shown.
+    Note { n: Number },
+    /// Edit `i` of the script, counted from 0, is judged.
+    Edit { i: u32, verdict: Verdict },
 }
 
 /// How a log ends.
@@ -22,6 +36,8 @@ pub enum Entry {
 pub enum Ending {
     /// The whole project ran.
     Done,
+    /// Wherever the run could go on, it waits for a mark that isn't set.
+    Blocked,
     /// The log has as many entries as it may have, and the run could go on.
     Limit,
 }

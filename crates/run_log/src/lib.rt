@@ -1,7 +1,8 @@
-//! The run log: its entries, its text, and its writer. The tests stand in the crate path_tests.
+//! The run log: its entries, its text, its writer, and laws of its text. The tests stand in the crate path_tests.
 #![tactic(auto)]
 
 mod entry;
+pub mod laws;
 mod lines;
 mod writing;
 

@@ -4,12 +4,13 @@ ghost use Rattle.std.specs.Prelude.{◌≡◌, ◌+◌, ◌≤◌, ◌++◌, ◌
 ghost use Rattle.std.specs.Fmt.{signed_decimal};
 ghost use Rattle.arrayvec.specs.ArrayVec.{array_vec_len};
 ghost use Rattle.run_log.specs.Line.{line as line_text};
+ghost use Rattle.run_log.specs.declared.entry.Entry.TheVariants.{Edit};
 ghost use Rattle.run_log.specs.BlocksText.{block_line};
-ghost use Rattle.run_log.specs.LogText.{block_words, entry_words, ending_word, entry_line, last_line};
+ghost use Rattle.run_log.specs.LogText.{answer_word, block_words, entry_words, ending_word, entry_line, last_line};
 
 use crate::entry::{Ending, Entry};
 use itoa::Buffer;
-use nc_base::{Line, put, put_number};
+use nc_base::{Line, Verdict, put, put_number};
 use path_blocks::Block;
 
 /// Puts a space and a length, speed or time at the line's end.
@@ -71,30 +72,105 @@ fn put_block(line: &mut Line, block: Block)
     }
 }
 
+/// Puts a word and a number at the line's end, a space between them.
+fn put_one(line: &mut Line, word: &[u8], n: u32)
+    requires { array_vec_len line.old + (length word.now + 41) ≤ 256 }
+    ensures items { line.new.items ≡ line.old.items ++ (word.now ++ 32 ∷ decimal n) }
+    ensures len { array_vec_len line.new ≤ array_vec_len line.old + (length word.now + 41) }
+{
+    put(line, word);
+    put_number(line, n);
+}
+
+/// Puts a word and two numbers at the line's end, a space before each number.
+fn put_two(line: &mut Line, word: &[u8], n: u32, k: u32)
+    requires { array_vec_len line.old + (length word.now + 82) ≤ 256 }
+    ensures items { line.new.items ≡ line.old.items ++ (word.now ++ (32 ∷ decimal n ++ 32 ∷ decimal k)) }
+    ensures len { array_vec_len line.new ≤ array_vec_len line.old + (length word.now + 82) }
+{
+    put_one(line, word, n);
+    put_number(line, k);
+}
+
+/// Puts a space and the digit of a test's answer at the line's end.
+fn put_answer(line: &mut Line, yes: bool)
+    requires { array_vec_len line.old + 2 ≤ 256 }
+    ensures items { line.new.items ≡ line.old.items ++ 32 ∷ answer_word yes }
+    ensures len { array_vec_len line.new ≡ array_vec_len line.old + 2 }
+{
+    if yes {
+        put(line, b" 1");
+    } else {
+        put(line, b" 0");
+    }
+}
+
+/// Puts a space and the rule that refuses an edit at the line's end.
+fn put_rule(line: &mut Line, rule: u8)
+    requires { array_vec_len line.old + 42 ≤ 256 }
+    ensures items { line.new.items ≡ line.old.items ++ (32 ∷ 74 ∷ decimal rule) }
+    ensures len { array_vec_len line.new ≤ array_vec_len line.old + 42 }
+{
+    let mut buffer = Buffer::new();
+    put(line, b" J");
+    put(line, buffer.format(rule).as_bytes());
+}
+
+/// Puts the words of an edit's entry at the line's end, a space before each but the first.
+fn put_edit(line: &mut Line, i: u32, verdict: Verdict)
+    requires { array_vec_len line.old + 180 ≤ 256 }
+    ensures items { line.new.items ++ 10 ∷ [] ≡ line.old.items ++ line_text (entry_words (Edit i verdict)) }
+    ensures len { array_vec_len line.new ≤ array_vec_len line.old + 180 }
+{
+    put_one(line, b"X", i);
+    match verdict {
+        Verdict::Accepted => put(line, b" ok"),
+        Verdict::Refused { code, a, b } => {
+            put(line, b" no");
+            put_rule(line, code);
+            put_number(line, a);
+            put_number(line, b);
+        }
+    }
+}
+
+/// Puts the words of an entry at the line's end, a space before each but the first.
+fn put_entry(line: &mut Line, entry: Entry)
+    requires { array_vec_len line.old + 255 ≤ 256 }
+    ensures items { line.new.items ++ 10 ∷ [] ≡ line.old.items ++ line_text (entry_words entry) }
+    ensures len { array_vec_len line.new ≤ array_vec_len line.old + 255 }
+{
+    match entry {
+        Entry::Dispatch { n, v } => put_two(line, b"D", n, v),
+        Entry::Block { n, k, b } => {
+            put_two(line, b"B", n, k);
+            put(line, b" ");
+            put_block(line, b);
+        }
+        Entry::End { n } => put_one(line, b"E", n),
+        Entry::Pick { n, k } => put_two(line, b"P", n, k),
+        Entry::Test { n, yes } => {
+            put_one(line, b"T", n);
+            put_answer(line, yes);
+        }
+        Entry::Assign { n, x } => {
+            put_one(line, b"A", n);
+            put_length(line, x);
+        }
+        Entry::Set { n } => put_one(line, b"S", n),
+        Entry::Pass { n } => put_one(line, b"W", n),
+        Entry::Note { n } => put_one(line, b"M", n),
+        Entry::Edit { i, verdict } => put_edit(line, i, verdict),
+    }
+}
+
 /// The line of an entry.
 #[tactic(auto, unfolding(crate::specs::LogText::entry_line))]
 pub fn of_entry(entry: &Entry) -> Line
     ensures { result.items ≡ entry_line entry.now }
 {
     let mut line = Line::new();
-    match *entry {
-        Entry::Dispatch { n, v } => {
-            put(&mut line, b"D");
-            put_number(&mut line, n);
-            put_number(&mut line, v);
-        }
-        Entry::Block { n, k, b } => {
-            put(&mut line, b"B");
-            put_number(&mut line, n);
-            put_number(&mut line, k);
-            put(&mut line, b" ");
-            put_block(&mut line, b);
-        }
-        Entry::End { n } => {
-            put(&mut line, b"E");
-            put_number(&mut line, n);
-        }
-    }
+    put_entry(&mut line, *entry);
     put(&mut line, b"\n");
     line
 }
@@ -121,6 +197,7 @@ pub fn of_ending(ending: Ending, count: u32) -> Line
         &mut line,
         match ending {
             Ending::Done => b"done".as_slice(),
+            Ending::Blocked => b"blocked",
             Ending::Limit => b"limit".as_slice(),
         },
     );

@@ -1,4 +1,4 @@
-use Rattle.std.proofs.Common.{◌≡◌, ◌+◌, ◌++◌, List, ℕ, [], length, take, drop, append-nil, arith, subst, ap, ◌∙◌, sym}
+use Rattle.std.proofs.Common.{◌+◌, ◌++◌, List, ℕ, [], take, drop, append-nil, arith, subst, ◌∙◌, sym}
 use Rattle.std.specs.List.{flat_map}
 use Rattle.std.proofs.lemmas.Result.{err_from_is_err_and}
 use Rattle.nc_outside.specs.Outside.{Appends, AppendsFront}

@@ -1,0 +1,16 @@
+pub mod Exec
+pub mod Arena
+pub mod Executable
+pub mod Size
+pub mod Spent
+pub mod Classes
+pub mod Terms
+pub mod Said
+pub mod Role
+pub mod Walk
+pub mod TreeFault
+pub mod TreeOf
+pub mod Walked
+pub mod Built
+pub mod First
+pub mod Resolving

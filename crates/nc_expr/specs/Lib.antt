@@ -1,0 +1,4 @@
+pub mod Term
+pub mod Value
+pub mod Vars
+pub mod Codes

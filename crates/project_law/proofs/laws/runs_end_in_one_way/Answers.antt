@@ -1,0 +1,5 @@
+use Rattle.project_law.proofs.Endings.{one_ending}
+use Rattle.project_law.proofs.laws.runs_end_in_one_way.Goals as goal
+
+pub returns : goal.returns
+returns c = one_ending

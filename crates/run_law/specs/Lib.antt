@@ -1,0 +1,10 @@
+pub mod Rules
+pub mod Fits
+pub mod Legal
+pub mod Endings
+pub mod Sound
+pub mod Tested
+pub mod Replay
+pub mod Ahead
+pub mod Agree
+pub mod PlainRules

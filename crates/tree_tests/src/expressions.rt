@@ -1,0 +1,183 @@
+//! Values and conditions, worked out by hand.
+
+use nc_base::NoMemory;
+use nc_expr::{Cond, Expr, Relation, Vars, test, value};
+use std::alloc::Global;
+use std::boxed::Box;
+use std::process::Abort;
+use std::test::Fail;
+
+/// What is done with two numbers.
+#[derive(Clone, Copy, Debug)]
+enum Operation {
+    Sum,
+    Difference,
+    Product,
+}
+
+use Operation::{Difference, Product, Sum};
+
+/// The greatest value.
+const MOST: i64 = 1_000_000_000_000_000;
+
+/// Two numbers, what is done with them, and the value. A product is divided by 1,000 and truncated towards zero; no value is past `MOST`.
+const VALUES: &[(i64, Operation, i64, i64)] = &[
+    (1_500, Sum, 2_250, 3_750),
+    (1_500, Difference, 2_250, -750),
+    (1_500, Product, 2_250, 3_375),
+    (1, Product, 999, 0),
+    (-1, Product, 999, 0),
+    (-3, Product, 999, -2),
+    (3, Product, -999, -2),
+    (-3, Product, -999, 2),
+    (MOST, Sum, 0, MOST),
+    (MOST, Sum, 1, MOST),
+    (MOST - 1, Sum, 1, MOST),
+    (-MOST, Difference, 1, -MOST),
+    (-MOST, Sum, -MOST, -MOST),
+    (MOST, Product, MOST, MOST),
+    (MOST, Product, -MOST, -MOST),
+    (MOST, Product, 1_000, MOST),
+    (MOST, Product, 1_001, MOST),
+    (MOST, Product, 999, 999_000_000_000_000),
+    (i64::MAX, Product, i64::MIN, -MOST),
+];
+
+fn expression(alloc: Global, a: i64, operation: Operation, b: i64) -> Result<Expr, NoMemory> {
+    let first = Box::new(alloc, Expr::Number(a))?;
+    let second = Box::new(alloc, Expr::Number(b))?;
+    Ok(match operation {
+        Sum => Expr::Sum(first, second),
+        Difference => Expr::Difference(first, second),
+        Product => Expr::Product(first, second),
+    })
+}
+
+fn expect_value(
+    rt: &impl Abort,
+    alloc: Global,
+    row: &(i64, Operation, i64, i64),
+) -> Result<(), NoMemory> {
+    let (a, operation, b, want) = *row;
+    let e = expression(alloc, a, operation, b)?;
+    let vars = Vars::new(alloc, &[])?;
+    assert_eq!(rt; value(&e, &vars), want, "{a} {operation:?} {b}");
+    Ok(())
+}
+
+#[test]
+fn values_are_clamped_and_products_truncated(rt: HostRuntime) -> Result<(), Fail> {
+    for row in VALUES {
+        expect_value(&rt, rt.alloc(), row)?;
+    }
+    Ok(())
+}
+
+/// A relation, and whether 1 to 2, 2 to 2 and 3 to 2 are in it.
+const RELATIONS: &[(Relation, [bool; 3])] = &[
+    (Relation::Equal, [false, true, false]),
+    (Relation::NotEqual, [true, false, true]),
+    (Relation::Greater, [false, false, true]),
+    (Relation::GreaterEqual, [false, true, true]),
+    (Relation::Less, [true, false, false]),
+    (Relation::LessEqual, [true, true, false]),
+];
+
+fn expect_relation(rt: &impl Abort, vars: &Vars, relation: Relation, x: i64, want: bool) {
+    let condition = Cond::Compares(relation, Expr::Number(x), Expr::Number(2));
+    assert_eq!(rt; test(&condition, vars), want, "{x} {relation:?} 2");
+}
+
+#[test]
+fn values_compare(rt: HostRuntime) -> Result<(), Fail> {
+    let vars = Vars::new(rt.alloc(), &[])?;
+    for (relation, wants) in RELATIONS {
+        expect_relation(&rt, &vars, *relation, 1, wants[0]);
+        expect_relation(&rt, &vars, *relation, 2, wants[1]);
+        expect_relation(&rt, &vars, *relation, 3, wants[2]);
+    }
+    Ok(())
+}
+
+/// Two conditions, and whether AND, OR and XOR of them hold.
+const PAIRS: &[(bool, bool, [bool; 3])] = &[
+    (false, false, [false, false, false]),
+    (false, true, [false, true, true]),
+    (true, false, [false, true, true]),
+    (true, true, [true, true, false]),
+];
+
+fn both(alloc: Global, a: bool, b: bool) -> Result<(Box<Cond>, Box<Cond>), NoMemory> {
+    Ok((
+        Box::new(alloc, Cond::Constant(a))?,
+        Box::new(alloc, Cond::Constant(b))?,
+    ))
+}
+
+fn expect_and(
+    rt: &impl Abort,
+    alloc: Global,
+    vars: &Vars,
+    row: &(bool, bool, [bool; 3]),
+) -> Result<(), NoMemory> {
+    let (a, b) = both(alloc, row.0, row.1)?;
+    assert_eq!(rt; test(&Cond::And(a, b), vars), row.2[0]);
+    Ok(())
+}
+
+fn expect_or(
+    rt: &impl Abort,
+    alloc: Global,
+    vars: &Vars,
+    row: &(bool, bool, [bool; 3]),
+) -> Result<(), NoMemory> {
+    let (a, b) = both(alloc, row.0, row.1)?;
+    assert_eq!(rt; test(&Cond::Or(a, b), vars), row.2[1]);
+    Ok(())
+}
+
+fn expect_xor(
+    rt: &impl Abort,
+    alloc: Global,
+    vars: &Vars,
+    row: &(bool, bool, [bool; 3]),
+) -> Result<(), NoMemory> {
+    let (a, b) = both(alloc, row.0, row.1)?;
+    assert_eq!(rt; test(&Cond::Xor(a, b), vars), row.2[2]);
+    Ok(())
+}
+
+#[test]
+fn conditions_join(rt: HostRuntime) -> Result<(), Fail> {
+    let vars = Vars::new(rt.alloc(), &[])?;
+    for row in PAIRS {
+        expect_and(&rt, rt.alloc(), &vars, row)?;
+        expect_or(&rt, rt.alloc(), &vars, row)?;
+        expect_xor(&rt, rt.alloc(), &vars, row)?;
+    }
+    Ok(())
+}
+
+#[test]
+fn a_condition_is_turned_round(rt: HostRuntime) -> Result<(), Fail> {
+    let vars = Vars::new(rt.alloc(), &[])?;
+    for answer in [false, true] {
+        let condition = Cond::Not(Box::new(rt.alloc(), Cond::Constant(answer))?);
+        assert_eq!(&rt; test(&condition, &vars), !answer);
+    }
+    Ok(())
+}
+
+fn expect_variables(rt: &impl Abort, vars: &Vars, wants: [i64; 3]) {
+    assert_eq!(rt; value(&Expr::Variable(7), vars), wants[0]);
+    assert_eq!(rt; value(&Expr::Variable(9), vars), wants[1]);
+    assert_eq!(rt; value(&Expr::Variable(8), vars), wants[2]);
+}
+
+/// The later of two pairs of one number stands; what isn't there counts as 0.
+#[test]
+fn variables_have_their_values(rt: HostRuntime) -> Result<(), Fail> {
+    let vars = Vars::new(rt.alloc(), &[(9, 1), (7, 5), (9, -2)])?;
+    expect_variables(&rt, &vars, [5, -2, 0]);
+    Ok(())
+}
