@@ -48,7 +48,11 @@ fn tell(rt: HostRuntime, words: &[NcText], status: Status, said: Option<&io::Err
             eprintln!(rt; "stepnc: standard output could not take all that was to be written")
         }
         Status::NoMemory => eprintln!(rt; "stepnc: out of memory"),
-        Status::Done | Status::Blocked | Status::RunLimit | Status::Written | Status::ProjectRefused(_) => Ok(()),
+        Status::Done
+        | Status::Blocked
+        | Status::RunLimit
+        | Status::Written
+        | Status::ProjectRefused(_) => Ok(()),
     };
 }
 
