@@ -81,15 +81,15 @@ pub record PocketFacts (lookup : Lookup) (area : Area) (cut : PocketCut) : Type 
   pub bottom : IfBetween (pos 0) (depth_of lookup -ℤ pos 1) cut.bottom
 
 -- what is known of a machining
-abbrev pub JobFacts : Lookup → Machining → Type 0
-JobFacts lookup (DrillHole diameter dwell) = IfBetween (pos 0) MAX_VALUE dwell
-JobFacts lookup (MillFace face cut) = FaceFacts lookup face cut
-JobFacts lookup (MillPocket area cut) = PocketFacts lookup area cut
+abbrev pub MachiningFacts : Lookup → Machining → Type 0
+MachiningFacts lookup (DrillHole diameter dwell) = IfBetween (pos 0) MAX_VALUE dwell
+MachiningFacts lookup (MillFace face cut) = FaceFacts lookup face cut
+MachiningFacts lookup (MillPocket area cut) = PocketFacts lookup area cut
 
 -- what is known where nothing was refused
 pub record Facts (lookup : Lookup) (machining : Machining) : Type 0 where
   pub place : PlaceFacts lookup
-  pub made : JobFacts lookup machining
+  pub made : MachiningFacts lookup machining
 
 -- a rectangle's sides are within the range of a definition
 pub record RectangleWithin (r : Rectangle) : Type 0 where

@@ -231,8 +231,8 @@ ranges_check lookup machining =
 -- ---- the kinds up to the ranges, in their order
 
 -- what the lookup makes, where none of these faults stands in the way
-unfoldable pub job_of : Lookup → Result Machining DefFault
-job_of lookup = do
+unfoldable pub machining_of : Lookup → Result Machining DefFault
+machining_of lookup = do
   no_toolpath ← unless (not lookup.has_toolpath) (HasToolpath lookup.operation)
   straight ← directions_check lookup
   machining ← made_by lookup lookup.feature_part lookup.operation_part

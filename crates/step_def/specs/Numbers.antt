@@ -22,7 +22,7 @@ use Rattle.step_def.specs.declared.attributes.Machining.TheVariants.{DrillHole, 
 use Rattle.step_def.specs.declared.attributes.Lookup.{Lookup}
 use Rattle.step_def.specs.Steps.{◌>>=◌}
 use Rattle.step_def.specs.Lookup.{found, lookup_of}
-use Rattle.step_def.specs.Faults.{depth_of, job_of}
+use Rattle.step_def.specs.Faults.{depth_of, machining_of}
 
 -- a number that may be left out
 abbrev pub or_else : ℤ → Option Quantity → ℤ
@@ -123,6 +123,6 @@ unfoldable pub numbers_at : (ℕ → Option Entity) → ℕ → Result Numbers D
 numbers_at from n = do
   step ← found n 3 (from n)
   lookup ← lookup_of from n step
-  machining ← job_of lookup
+  machining ← machining_of lookup
   shape ← shape_of lookup machining
   few_blocks n (numbers_with lookup machining shape)

@@ -34,11 +34,11 @@ use Rattle.step_def.specs.declared.attributes.Machining.{Machining}
 use Rattle.step_def.specs.declared.attributes.Machining.TheVariants.{DrillHole, MillFace, MillPocket}
 use Rattle.step_def.specs.declared.attributes.Lookup.{Lookup}
 use Rattle.step_def.specs.Steps.{◌>>=◌}
-use Rattle.step_def.specs.Faults.{all_positive, all_in_range, area_of, area_positives, area_ranges, between, course_check, cut_ranges, depth_of, directions_check, feature_positives, feature_ranges, is_in_range, is_sized, is_straight, job_of, made_by, operation_positives, operation_ranges, place_ranges, placement_check, positives_check, ranges_check, unless}
+use Rattle.step_def.specs.Faults.{all_positive, all_in_range, area_of, area_positives, area_ranges, between, course_check, cut_ranges, depth_of, directions_check, feature_positives, feature_ranges, is_in_range, is_sized, is_straight, machining_of, made_by, operation_positives, operation_ranges, place_ranges, placement_check, positives_check, ranges_check, unless}
 use Rattle.step_def.specs.Lookup.{found, lookup_of}
 use Rattle.step_def.specs.Numbers.{or_else, allowance_of, axial_of, has_room, inset_of, inset_rectangle, numbers_at, numbers_with, pocket_in, radial_of, rectangle_of, shape_of, sign_of, step_of}
 use Rattle.step_def.specs.Ranges.{KeepsRanges}
-use Rattle.step_def.specs.Facts.{AreaFacts, FaceFacts, Facts, IfBetween, IfPositive, JobFacts, PlaceFacts, PocketFacts, RectangleWithin}
+use Rattle.step_def.specs.Facts.{AreaFacts, FaceFacts, Facts, IfBetween, IfPositive, MachiningFacts, PlaceFacts, PocketFacts, RectangleWithin}
 use Rattle.path_blocks.specs.declared.limits.TheConstants.{MAX_BLOCKS}
 use Rattle.step_def.specs.declared.ranges.TheConstants.{MAX_VALUE}
 
@@ -123,7 +123,7 @@ area_facts_of : (area : Area) → ArePositive (area_positives area) → AreInRan
 area_facts_of (Centred length width) p r = record { length_sized = r.0; long = p.0; width_sized = r.1.0; wide = p.1.0 }
 area_facts_of (Cornered points) p r = record { first_x = r.0; first_y = r.1.0; third_x = r.1.1.1.1.0; third_y = r.1.1.1.1.1.0 }
 
-job_facts_of : (lookup : Lookup) (machining : Machining) → Straight machining → ArePositive (feature_positives machining) → ArePositive (operation_positives machining) → AreInRange (feature_ranges machining) → AreInRange (operation_ranges lookup machining) → JobFacts lookup machining
+job_facts_of : (lookup : Lookup) (machining : Machining) → Straight machining → ArePositive (feature_positives machining) → ArePositive (operation_positives machining) → AreInRange (feature_ranges machining) → AreInRange (operation_ranges lookup machining) → MachiningFacts lookup machining
 job_facts_of lookup (DrillHole diameter dwell) s p q r t = if_between (pos 0) MAX_VALUE dwell t.0
 job_facts_of lookup (MillFace face cut) s p q r t = record {
   straight = s;
@@ -179,8 +179,8 @@ course_ok lookup e =
     let placement = bind_ok (placement_check lookup.placement) _ tt security.2 in
     (bind_ok (placement_check lookup.floor) _ tt placement.2).2
 
-pub facts_of : (lookup : Lookup) (machining : Machining) → job_of lookup ≡ Ok machining → Facts lookup machining
-unfolding job_of
+pub facts_of : (lookup : Lookup) (machining : Machining) → machining_of lookup ≡ Ok machining → Facts lookup machining
+unfolding machining_of
 facts_of lookup found_job e =
     let toolpath = bind_ok (unless (not lookup.has_toolpath) (HasToolpath lookup.operation)) _ found_job e in
     let turned = bind_ok (directions_check lookup) _ found_job toolpath.2 in
@@ -227,7 +227,7 @@ or_zero_fits depth None h r = zero_fits depth h
 or_zero_fits depth (Some f) h r = r
 
 -- what is left at the bottom is less than the depth
-pub allowance_fits : (lookup : Lookup) (machining : Machining) → IsTrue (is_positive (depth_of lookup)) → JobFacts lookup machining → IsTrue (int_le (pos 0) (allowance_of machining) && int_le (allowance_of machining) (depth_of lookup -ℤ pos 1))
+pub allowance_fits : (lookup : Lookup) (machining : Machining) → IsTrue (is_positive (depth_of lookup)) → MachiningFacts lookup machining → IsTrue (int_le (pos 0) (allowance_of machining) && int_le (allowance_of machining) (depth_of lookup -ℤ pos 1))
 allowance_fits lookup (DrillHole diameter dwell) h made = zero_fits (depth_of lookup) h
 allowance_fits lookup (MillFace face cut) h made = or_zero_fits (depth_of lookup) cut.bottom h made.bottom
 allowance_fits lookup (MillPocket area cut) h made = or_zero_fits (depth_of lookup) cut.bottom h made.bottom
@@ -249,12 +249,12 @@ or_depth_positive : (depth : ℤ) (x : Option Quantity) → IsTrue (is_positive 
 or_depth_positive depth None h r = h
 or_depth_positive depth (Some f) h r = r
 
-axial_within : (lookup : Lookup) (machining : Machining) → IsTrue (is_sized lookup.floor.point.z) → JobFacts lookup machining → IsTrue (is_within (axial_of lookup machining))
+axial_within : (lookup : Lookup) (machining : Machining) → IsTrue (is_sized lookup.floor.point.z) → MachiningFacts lookup machining → IsTrue (is_within (axial_of lookup machining))
 axial_within lookup (DrillHole diameter dwell) h made = depth_within lookup.floor.point.z h
 axial_within lookup (MillFace face cut) h made = or_depth_within lookup.floor.point.z cut.axial h made.axial
 axial_within lookup (MillPocket area cut) h made = or_depth_within lookup.floor.point.z cut.axial h made.axial
 
-axial_positive : (lookup : Lookup) (machining : Machining) → IsTrue (is_positive (depth_of lookup)) → JobFacts lookup machining → IsTrue (is_positive (axial_of lookup machining))
+axial_positive : (lookup : Lookup) (machining : Machining) → IsTrue (is_positive (depth_of lookup)) → MachiningFacts lookup machining → IsTrue (is_positive (axial_of lookup machining))
 axial_positive lookup (DrillHole diameter dwell) h made = h
 axial_positive lookup (MillFace face cut) h made = or_depth_positive (depth_of lookup) cut.axial h made.cuts
 axial_positive lookup (MillPocket area cut) h made = or_depth_positive (depth_of lookup) cut.axial h made.cuts
@@ -391,7 +391,7 @@ pocket_shaped lookup area cut place made room =
     (or_radial_positive (unsigned_abs cut.diameter.value) cut.radial made.apart))
     across) along
 
-pub shaped : (lookup : Lookup) (machining : Machining) (shape : Shape) → PlaceFacts lookup → JobFacts lookup machining → shape_of lookup machining ≡ Ok shape → IsTrue (fits_shape shape)
+pub shaped : (lookup : Lookup) (machining : Machining) (shape : Shape) → PlaceFacts lookup → MachiningFacts lookup machining → shape_of lookup machining ≡ Ok shape → IsTrue (fits_shape shape)
 shaped lookup (DrillHole diameter dwell) shape place made e = subst (λ (s : Shape). IsTrue (fits_shape s)) (ok_is _ shape e) (drill_shaped lookup dwell place made)
 shaped lookup (MillFace face cut) shape place made e = subst (λ (s : Shape). IsTrue (fits_shape s)) (ok_is _ shape e) (face_shaped lookup face cut place made)
 shaped lookup (MillPocket area cut) shape place made e =
@@ -437,7 +437,7 @@ unfolding numbers_at
 keeps_ranges from n x e =
     let step = bind_ok (found n 3 (from n)) _ x e in
     let lookup = bind_ok (lookup_of from n step.0) _ x step.2 in
-    let machining = bind_ok (job_of lookup.0) _ x lookup.2 in
+    let machining = bind_ok (machining_of lookup.0) _ x lookup.2 in
     let shape = bind_ok (shape_of lookup.0 machining.0) _ x machining.2 in
     let numbers : Numbers = numbers_with lookup.0 machining.0 shape.0 in
     let count : ℕ = block_count numbers.z0 numbers.bottom numbers.axial numbers.shape in

@@ -1,7 +1,7 @@
 //! The faults of what a lookup found, kind by kind, up to numbers out of their ranges.
 
 ghost use Rattle.std.specs.Prelude.{◌≡◌};
-ghost use Rattle.step_def.specs.Faults.{all_positive, course_check, directions_check, feature_positives, is_along_x, is_straight, is_upright, job_of, made_by, operation_positives, placement_check, positives_check};
+ghost use Rattle.step_def.specs.Faults.{all_positive, course_check, directions_check, feature_positives, is_along_x, is_straight, is_upright, machining_of, made_by, operation_positives, placement_check, positives_check};
 
 use crate::attributes::{
     Area, Coordinates, FeaturePart, Lookup, Machining, OperationPart, Placement, Quantity,
@@ -150,9 +150,9 @@ fn positives_check(lookup: &Lookup, machining: &Machining) -> Result<(), DefFaul
     operation_positives_check(machining)
 }
 
-#[tactic(auto, unfolding(crate::specs::Faults::job_of))]
-pub(crate) fn job_of(lookup: &Lookup) -> Result<Machining, DefFault>
-    ensures { result ≡ job_of lookup.now }
+#[tactic(auto, unfolding(crate::specs::Faults::machining_of))]
+pub(crate) fn machining_of(lookup: &Lookup) -> Result<Machining, DefFault>
+    ensures { result ≡ machining_of lookup.now }
 {
     if lookup.has_toolpath {
         return Err(DefFault::HasToolpath(lookup.operation));

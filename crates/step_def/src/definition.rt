@@ -5,14 +5,14 @@ ghost use Rattle.path_blocks.specs.Numbers.{numbers_of};
 ghost use Rattle.path_blocks.specs.declared.limits.TheConstants.{MAX_SIZE};
 ghost use Rattle.step_def.specs.declared.ranges.TheConstants.{MAX_VALUE};
 ghost use Rattle.step_def.specs.Steps.{Gives};
-ghost use Rattle.step_def.specs.Faults.{depth_of, is_sized, job_of};
+ghost use Rattle.step_def.specs.Faults.{depth_of, is_sized, machining_of};
 ghost use Rattle.step_def.specs.Numbers.{allowance_of, axial_of, few_blocks, inset_of, numbers_at, numbers_with, or_else, radial_of, retract_height, shape_of, sign_of, step_of};
 ghost use Rattle.step_def.specs.Facts.{Facts, IfBetween, PlaceFacts, PocketFacts};
 ghost use Rattle.step_def.specs.Condition.{is_workingstep};
 ghost use Rattle.step_def.specs.DefOf.{def_of};
 
 use crate::attributes::{Area, FaceCut, Lookup, Machining, PocketCut, Quantity};
-use crate::check::job_of;
+use crate::check::machining_of;
 use crate::fault::DefFault;
 use crate::lookup::lookup_of;
 use crate::rectangle::{has_room, rectangle_of, shrunk};
@@ -172,7 +172,7 @@ fn def_with(
     machining: &Machining,
     shape: &Shape,
 ) -> Result<Def, DefFault>
-    requires machining { job_of lookup.now ≡ Ok machining.now }
+    requires machining { machining_of lookup.now ≡ Ok machining.now }
     requires shape { shape_of lookup.now machining.now ≡ Ok shape.now }
     ensures { Gives numbers_of result (few_blocks n (numbers_with lookup.now machining.now shape.now)) }
 {
@@ -204,7 +204,7 @@ fn checked<E: Entities>(from: &E, n: Number) -> Result<Def, DefFault>
         return Err(DefFault::Missing(n, 3));
     };
     let lookup = lookup_of(from, n, step)?;
-    let machining = job_of(&lookup)?;
+    let machining = machining_of(&lookup)?;
     let shape = shape_of(&lookup, &machining)?;
     def_with(n, &lookup, &machining, &shape)
 }
