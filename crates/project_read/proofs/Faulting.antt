@@ -147,6 +147,7 @@ fault_moved entities ns ms (Refused reasons.TooLong) moved said = absurd said
 fault_moved entities ns ms (Refused (reasons.Read fault)) moved said = absurd said
 fault_moved entities ns ms (Refused (reasons.Attribute fault)) moved said = absurd said
 fault_moved entities ns ms (Refused (reasons.Store fault)) moved said = absurd said
+fault_moved entities ns ms (Refused (reasons.Tree fault)) moved said = absurd said
 fault_moved entities ns ms (Refused reasons.NotBuilt) moved said = absurd said
 fault_moved entities ns ms (Refused (reasons.NoStep n)) moved said = absurd said
 fault_moved entities ns ms NoMemory moved said = tt

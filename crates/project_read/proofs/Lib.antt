@@ -1,7 +1,7 @@
 pub mod OneProject
 pub mod Typing
 pub mod Storing
-pub mod Planning
+pub mod TreeLemmas
 pub mod Faulting
 pub mod Holding
 pub mod Progress

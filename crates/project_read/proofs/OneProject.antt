@@ -22,9 +22,11 @@ use Rattle.step_def.specs.declared.fault.DefFault.{DefFault}
 use Rattle.project_read.specs.declared.reason.ProjectReason.{ProjectReason}
 use Rattle.project_read.specs.declared.reason.ProjectReason.TheVariants as reasons
 use Rattle.project_read.specs.Typing.{all_typed}
-use Rattle.project_read.specs.Plan.{main_plan, IsPlan}
+use Rattle.exec_tree.specs.declared.error.TreeErr.{TreeErr}
+use Rattle.exec_tree.specs.TreeFault.{first_tree_fault}
+use Rattle.exec_tree.specs.Built.{main_of, steps_of}
 use Rattle.project_read.specs.Faults.{has_def, IsLeastFault}
-use Rattle.project_read.specs.Holds.{Project, HasExchange, HasEntities, HasStore, HasPlan, Holds}
+use Rattle.project_read.specs.Holds.{Project, HasExchange, HasEntities, HasStore, HasTree, Holds}
 use Rattle.project_read.specs.Refuses.{Refuses}
 use Rattle.project_read.proofs.Faulting.{each}
 use Rattle.project_read.specs.declared.project.TheConstants.{MAX_PROJECT_BYTES}
@@ -73,31 +75,18 @@ one_list one bytes xs ys h k =
     let same : h.exchange ≡ k.exchange = one bytes h.exchange k.exchange h.has.spelled k.has.spelled in
     same_entities xs ys (ok_same (map entity_of xs) (map entity_of ys) (sym h.typed ∙ ap (λ (x : ExchangeTree). all_typed x.items) same ∙ k.typed))
 
-abbrev planned : ℕ × List ℕ → Option (ℕ × List ℕ)
-planned p = Some p
-
-same_pair : (x y : ℕ × List ℕ) → planned x ≡ planned y → x ≡ y
-same_pair x y e = cc
-
-some_main : (a b : ℕ) (xs ys : List ℕ) → planned (a, xs) ≡ planned (b, ys) → a ≡ b
-some_main a b xs ys e = ap (λ (p : ℕ × List ℕ). p.0) (same_pair (a, xs) (b, ys) e)
-
-some_steps : (a b : ℕ) (xs ys : List ℕ) → planned (a, xs) ≡ planned (b, ys) → xs ≡ ys
-some_steps a b xs ys e = ap (λ (p : ℕ × List ℕ). p.1) (same_pair (a, xs) (b, ys) e)
-
--- bytes have one plan
-one_plan : One → (bytes : List ℕ) (p q : Project) → HasPlan bytes p → HasPlan bytes q → p ≡ q
-one_plan one bytes p q h k =
+-- bytes have one project up to its tree
+one_tree : One → (bytes : List ℕ) (p q : Project) → HasTree bytes p → HasTree bytes q → p ≡ q
+one_tree one bytes p q h k =
     let es : p.entities ≡ q.entities = one_list one bytes p.entities q.entities h.has.has k.has.has in
-    let plans : planned (p.main, p.steps) ≡ planned (q.main, q.steps) = sym h.plan.planned ∙ ap main_plan es ∙ k.plan.planned in
-    let main : p.main ≡ q.main = some_main p.main q.main p.steps q.steps plans in
-    let steps : p.steps ≡ q.steps = some_steps p.main q.main p.steps q.steps plans in
+    let main : p.main ≡ q.main = h.main_is ∙ ap main_of es ∙ sym k.main_is in
+    let steps : p.steps ≡ q.steps = h.steps_are ∙ ap (λ (xs : List Entity). steps_of (entity_at xs) p.main) es ∙ ap (λ (n : ℕ). steps_of (entity_at q.entities) n) main ∙ sym k.steps_are in
     ap (λ (xs : List Entity). record { entities = xs; main = p.main; steps = p.steps }) es
     ∙ ap (λ (n : ℕ). record { entities = q.entities; main = n; steps = p.steps }) main
     ∙ ap (λ (ns : List ℕ). record { entities = q.entities; main = q.main; steps = ns }) steps
 
 pub one_project : One → (bytes : List ℕ) (p q : Project) → Holds bytes p → Holds bytes q → p ≡ q
-one_project one bytes p q h k = one_plan one bytes p q h.has k.has
+one_project one bytes p q h k = one_tree one bytes p q h.has k.has
 
 abbrev Apart : Type 0
 Apart = (bytes : List ℕ) (x : ExchangeTree) (e : ReadErr) → IsText bytes x → IsRefusedText bytes e → e ≡ reads.NoMemory
@@ -121,14 +110,17 @@ no_build one bytes p fault entities h k e =
     let bad : None ≡ Some fault = sym h.has.has.built ∙ ap fault_of same ∙ e in
     absurd (cc)
 
-no_least : One → (bytes : List ℕ) (p q : Project) (n : ℕ) (fault : DefFault) → Holds bytes p → HasPlan bytes q → IsLeastFault q.entities q.steps n fault → ⊥
+no_least : One → (bytes : List ℕ) (p q : Project) (n : ℕ) (fault : DefFault) → Holds bytes p → HasTree bytes q → IsLeastFault q.entities q.steps n fault → ⊥
 no_least one bytes p q n fault h k least =
-    let same : p ≡ q = one_plan one bytes p q h.has k in
+    let same : p ≡ q = one_tree one bytes p q h.has k in
     let all : list_all (has_def q.entities) q.steps ≡ true = subst (λ (r : Project). list_all (has_def r.entities) r.steps ≡ true) same h.defined in
     let has : has_def q.entities n ≡ true = each (has_def q.entities) q.steps n all least.among in
     let not : has_def q.entities n ≡ false = ap is_ok least.faulty in
     let bad : false ≡ true = sym not ∙ has in
     absurd (cc)
+
+abbrev unfit : TreeErr → Option TreeErr
+unfit e = Some e
 
 pub no_refusal : One → Apart → (bytes : List ℕ) (p : Project) (reason : ProjectReason) → Holds bytes p → Refuses bytes reason → ⊥
 no_refusal one apart bytes p reasons.TooLong h r = let short : length bytes ≤ MAX_PROJECT_BYTES = h.has.has.has.has.short in absurd (omega arith)
@@ -145,9 +137,12 @@ no_refusal one apart bytes p (reasons.Read (reads.Duplicate number)) h r = let e
 no_refusal one apart bytes p (reasons.Read reads.NoMemory) h r = r
 no_refusal one apart bytes p (reasons.Attribute fault) h r = no_typing one bytes p fault r.0 h r.1 r.2
 no_refusal one apart bytes p (reasons.Store fault) h r = no_build one bytes p fault r.0 h r.1 r.2
-no_refusal one apart bytes p reasons.NotBuilt h r =
+no_refusal one apart bytes p (reasons.Tree fault) h r =
     let same : p.entities ≡ r.0 = one_list one bytes p.entities r.0 h.has.has.has r.1.has in
-    r.2 p.main p.steps (subst (λ (es : List Entity). IsPlan es p.main p.steps) same h.has.plan)
+    let treed : first_tree_fault (entity_at p.entities) (main_of p.entities) ≡ None = subst (λ (n : ℕ). first_tree_fault (entity_at p.entities) n ≡ None) h.has.main_is h.has.treed in
+    let bad : unfit fault ≡ None = sym r.2 ∙ sym (ap (λ (xs : List Entity). first_tree_fault (entity_at xs) (main_of xs)) same) ∙ treed in
+    absurd (cc)
+no_refusal one apart bytes p reasons.NotBuilt h r = r
 no_refusal one apart bytes p (reasons.Definition n fault) h r = no_least one bytes p r.0 n fault h r.1 r.2
 no_refusal one apart bytes p (reasons.NoStep n) h r = r
 
@@ -213,9 +208,16 @@ not_built one bytes e xs ys h p k =
     let both : faulty e ≡ None = sym p ∙ ap fault_of (one_list one bytes xs ys h k.has) ∙ k.built in
     absurd (cc)
 
-not_planned : One → (bytes : List ℕ) (xs : List Entity) (q : Project) → HasStore bytes xs → ((main : ℕ) (steps : List ℕ) → IsPlan xs main steps → ⊥) → HasPlan bytes q → ⊥
-not_planned one bytes xs q h none k =
-    none q.main q.steps (subst (λ (es : List Entity). IsPlan es q.main q.steps) (one_list one bytes q.entities xs k.has.has h.has) k.plan)
+same_unfit : One → (bytes : List ℕ) (e f : TreeErr) (xs ys : List Entity) → HasStore bytes xs → first_tree_fault (entity_at xs) (main_of xs) ≡ Some e → HasStore bytes ys → first_tree_fault (entity_at ys) (main_of ys) ≡ Some f → e ≡ f
+same_unfit one bytes e f xs ys h p k q =
+    let both : unfit e ≡ unfit f = sym p ∙ ap (λ (es : List Entity). first_tree_fault (entity_at es) (main_of es)) (one_list one bytes xs ys h.has k.has) ∙ q in
+    cc
+
+not_treed : One → (bytes : List ℕ) (e : TreeErr) (xs : List Entity) (q : Project) → HasStore bytes xs → first_tree_fault (entity_at xs) (main_of xs) ≡ Some e → HasTree bytes q → ⊥
+not_treed one bytes e xs q h p k =
+    let treed : first_tree_fault (entity_at q.entities) (main_of q.entities) ≡ None = subst (λ (n : ℕ). first_tree_fault (entity_at q.entities) n ≡ None) k.main_is k.treed in
+    let both : unfit e ≡ None = sym p ∙ ap (λ (es : List Entity). first_tree_fault (entity_at es) (main_of es)) (one_list one bytes xs q.entities h.has k.has.has) ∙ treed in
+    absurd (cc)
 
 abbrev broken : DefFault → Result Def DefFault
 broken e = Err e
@@ -242,51 +244,58 @@ least_fault p n m e f h k =
     let fault : e ≡ f = cc in
     ap (λ (i : ℕ). reasons.Definition i e) number ∙ ap (reasons.Definition m) fault
 
-same_least : One → (bytes : List ℕ) (p q : Project) (n m : ℕ) (e f : DefFault) → HasPlan bytes p → IsLeastFault p.entities p.steps n e → HasPlan bytes q → IsLeastFault q.entities q.steps m f → reasons.Definition n e ≡ reasons.Definition m f
+same_least : One → (bytes : List ℕ) (p q : Project) (n m : ℕ) (e f : DefFault) → HasTree bytes p → IsLeastFault p.entities p.steps n e → HasTree bytes q → IsLeastFault q.entities q.steps m f → reasons.Definition n e ≡ reasons.Definition m f
 same_least one bytes p q n m e f h x k y =
-    least_fault p n m e f x (subst (λ (r : Project). IsLeastFault r.entities r.steps m f) (one_plan one bytes q p k h) y)
+    least_fault p n m e f x (subst (λ (r : Project). IsLeastFault r.entities r.steps m f) (one_tree one bytes q p k h) y)
 
 pub one_refusal : One → Apart → Single → (bytes : List ℕ) (r s : ProjectReason) → Refuses bytes r → Refuses bytes s → r ≡ s
 one_refusal one apart single bytes reasons.TooLong reasons.TooLong h k = refl
 one_refusal one apart single bytes reasons.TooLong (reasons.Read e) h k = absurd (too_long bytes h (said bytes e k).short)
 one_refusal one apart single bytes reasons.TooLong (reasons.Attribute e) h k = absurd (too_long bytes h k.1.short)
 one_refusal one apart single bytes reasons.TooLong (reasons.Store e) h k = absurd (too_long bytes h k.1.has.short)
-one_refusal one apart single bytes reasons.TooLong reasons.NotBuilt h k = absurd (too_long bytes h k.1.has.has.short)
+one_refusal one apart single bytes reasons.TooLong (reasons.Tree f) h k = absurd (too_long bytes h k.1.has.has.short)
 one_refusal one apart single bytes reasons.TooLong (reasons.Definition n e) h k = absurd (too_long bytes h k.1.has.has.has.short)
+one_refusal one apart single bytes reasons.TooLong reasons.NotBuilt h k = absurd k
 one_refusal one apart single bytes reasons.TooLong (reasons.NoStep n) h k = absurd k
 one_refusal one apart single bytes (reasons.Read e) reasons.TooLong h k = absurd (too_long bytes k (said bytes e h).short)
 one_refusal one apart single bytes (reasons.Read e) (reasons.Read f) h k = same_fault single bytes e f (said bytes e h) (said bytes f k)
 one_refusal one apart single bytes (reasons.Read e) (reasons.Attribute f) h k = absurd (no_text apart bytes e k.0 (said bytes e h) k.1)
 one_refusal one apart single bytes (reasons.Read e) (reasons.Store f) h k = absurd (no_text apart bytes e k.1.exchange (said bytes e h) k.1.has)
-one_refusal one apart single bytes (reasons.Read e) reasons.NotBuilt h k = absurd (no_text apart bytes e k.1.has.exchange (said bytes e h) k.1.has.has)
+one_refusal one apart single bytes (reasons.Read e) (reasons.Tree f) h k = absurd (no_text apart bytes e k.1.has.exchange (said bytes e h) k.1.has.has)
 one_refusal one apart single bytes (reasons.Read e) (reasons.Definition n f) h k = absurd (no_text apart bytes e k.1.has.has.exchange (said bytes e h) k.1.has.has.has)
+one_refusal one apart single bytes (reasons.Read e) reasons.NotBuilt h k = absurd k
 one_refusal one apart single bytes (reasons.Read e) (reasons.NoStep n) h k = absurd k
 one_refusal one apart single bytes (reasons.Attribute e) reasons.TooLong h k = absurd (too_long bytes k h.1.short)
 one_refusal one apart single bytes (reasons.Attribute e) (reasons.Read f) h k = absurd (no_text apart bytes f h.0 (said bytes f k) h.1)
 one_refusal one apart single bytes (reasons.Attribute e) (reasons.Attribute f) h k = ap reasons.Attribute (same_typing one bytes e f h.0 k.0 h.1 h.2 k.1 k.2)
 one_refusal one apart single bytes (reasons.Attribute e) (reasons.Store f) h k = absurd (not_typed one bytes e h.0 k.0 h.1 h.2 k.1)
-one_refusal one apart single bytes (reasons.Attribute e) reasons.NotBuilt h k = absurd (not_typed one bytes e h.0 k.0 h.1 h.2 k.1.has)
+one_refusal one apart single bytes (reasons.Attribute e) (reasons.Tree f) h k = absurd (not_typed one bytes e h.0 k.0 h.1 h.2 k.1.has)
 one_refusal one apart single bytes (reasons.Attribute e) (reasons.Definition n f) h k = absurd (not_typed one bytes e h.0 k.0.entities h.1 h.2 k.1.has.has)
+one_refusal one apart single bytes (reasons.Attribute e) reasons.NotBuilt h k = absurd k
 one_refusal one apart single bytes (reasons.Attribute e) (reasons.NoStep n) h k = absurd k
 one_refusal one apart single bytes (reasons.Store e) reasons.TooLong h k = absurd (too_long bytes k h.1.has.short)
 one_refusal one apart single bytes (reasons.Store e) (reasons.Read f) h k = absurd (no_text apart bytes f h.1.exchange (said bytes f k) h.1.has)
 one_refusal one apart single bytes (reasons.Store e) (reasons.Attribute f) h k = absurd (not_typed one bytes f k.0 h.0 k.1 k.2 h.1)
 one_refusal one apart single bytes (reasons.Store e) (reasons.Store f) h k = ap reasons.Store (same_store one bytes e f h.0 k.0 h.1 h.2 k.1 k.2)
-one_refusal one apart single bytes (reasons.Store e) reasons.NotBuilt h k = absurd (not_built one bytes e h.0 k.0 h.1 h.2 k.1)
+one_refusal one apart single bytes (reasons.Store e) (reasons.Tree f) h k = absurd (not_built one bytes e h.0 k.0 h.1 h.2 k.1)
 one_refusal one apart single bytes (reasons.Store e) (reasons.Definition n f) h k = absurd (not_built one bytes e h.0 k.0.entities h.1 h.2 k.1.has)
+one_refusal one apart single bytes (reasons.Store e) reasons.NotBuilt h k = absurd k
 one_refusal one apart single bytes (reasons.Store e) (reasons.NoStep n) h k = absurd k
-one_refusal one apart single bytes reasons.NotBuilt reasons.TooLong h k = absurd (too_long bytes k h.1.has.has.short)
-one_refusal one apart single bytes reasons.NotBuilt (reasons.Read f) h k = absurd (no_text apart bytes f h.1.has.exchange (said bytes f k) h.1.has.has)
-one_refusal one apart single bytes reasons.NotBuilt (reasons.Attribute f) h k = absurd (not_typed one bytes f k.0 h.0 k.1 k.2 h.1.has)
-one_refusal one apart single bytes reasons.NotBuilt (reasons.Store f) h k = absurd (not_built one bytes f k.0 h.0 k.1 k.2 h.1)
-one_refusal one apart single bytes reasons.NotBuilt reasons.NotBuilt h k = refl
-one_refusal one apart single bytes reasons.NotBuilt (reasons.Definition n f) h k = absurd (not_planned one bytes h.0 k.0 h.1 h.2 k.1)
-one_refusal one apart single bytes reasons.NotBuilt (reasons.NoStep n) h k = absurd k
+one_refusal one apart single bytes (reasons.Tree e) reasons.TooLong h k = absurd (too_long bytes k h.1.has.has.short)
+one_refusal one apart single bytes (reasons.Tree e) (reasons.Read f) h k = absurd (no_text apart bytes f h.1.has.exchange (said bytes f k) h.1.has.has)
+one_refusal one apart single bytes (reasons.Tree e) (reasons.Attribute f) h k = absurd (not_typed one bytes f k.0 h.0 k.1 k.2 h.1.has)
+one_refusal one apart single bytes (reasons.Tree e) (reasons.Store f) h k = absurd (not_built one bytes f k.0 h.0 k.1 k.2 h.1)
+one_refusal one apart single bytes (reasons.Tree e) (reasons.Tree f) h k = ap reasons.Tree (same_unfit one bytes e f h.0 k.0 h.1 h.2 k.1 k.2)
+one_refusal one apart single bytes (reasons.Tree e) (reasons.Definition n f) h k = absurd (not_treed one bytes e h.0 k.0 h.1 h.2 k.1)
+one_refusal one apart single bytes (reasons.Tree e) reasons.NotBuilt h k = absurd k
+one_refusal one apart single bytes (reasons.Tree e) (reasons.NoStep n) h k = absurd k
 one_refusal one apart single bytes (reasons.Definition n e) reasons.TooLong h k = absurd (too_long bytes k h.1.has.has.has.short)
 one_refusal one apart single bytes (reasons.Definition n e) (reasons.Read f) h k = absurd (no_text apart bytes f h.1.has.has.exchange (said bytes f k) h.1.has.has.has)
 one_refusal one apart single bytes (reasons.Definition n e) (reasons.Attribute f) h k = absurd (not_typed one bytes f k.0 h.0.entities k.1 k.2 h.1.has.has)
 one_refusal one apart single bytes (reasons.Definition n e) (reasons.Store f) h k = absurd (not_built one bytes f k.0 h.0.entities k.1 k.2 h.1.has)
-one_refusal one apart single bytes (reasons.Definition n e) reasons.NotBuilt h k = absurd (not_planned one bytes k.0 h.0 k.1 k.2 h.1)
+one_refusal one apart single bytes (reasons.Definition n e) (reasons.Tree f) h k = absurd (not_treed one bytes f k.0 h.0 k.1 k.2 h.1)
 one_refusal one apart single bytes (reasons.Definition n e) (reasons.Definition m f) h k = same_least one bytes h.0 k.0 n m e f h.1 h.2 k.1 k.2
+one_refusal one apart single bytes (reasons.Definition n e) reasons.NotBuilt h k = absurd k
 one_refusal one apart single bytes (reasons.Definition n e) (reasons.NoStep m) h k = absurd k
+one_refusal one apart single bytes reasons.NotBuilt s h k = absurd h
 one_refusal one apart single bytes (reasons.NoStep n) s h k = absurd h

@@ -6,7 +6,9 @@ use Rattle.entity_read.specs.declared.error.TypeErr.{TypeErr}
 use Rattle.entity_read.specs.declared.error.TypeErr.TheVariants as types
 use Rattle.project_store.specs.declared.error.StoreErr.{StoreErr}
 use Rattle.project_store.specs.declared.error.StoreErr.TheVariants as stores
-use Rattle.project_read.specs.declared.reason.ProjectReason.TheVariants.{Read, Attribute, Store}
+use Rattle.exec_tree.specs.declared.error.TreeErr.{TreeErr}
+use Rattle.exec_tree.specs.declared.error.TreeErr.TheVariants as trees
+use Rattle.project_read.specs.declared.reason.ProjectReason.TheVariants.{Read, Attribute, Store, Tree}
 use Rattle.project_read.specs.declared.reason.ProjectErr.{ProjectErr}
 use Rattle.project_read.specs.declared.reason.ProjectErr.TheVariants.{Refused, NoMemory}
 
@@ -22,3 +24,7 @@ from_type fault = Refused (Attribute fault)
 abbrev pub from_store : StoreErr → ProjectErr
 from_store stores.NoMemory = NoMemory
 from_store fault = Refused (Store fault)
+
+abbrev pub from_tree : TreeErr → ProjectErr
+from_tree trees.NoMemory = NoMemory
+from_tree fault = Refused (Tree fault)

@@ -5,13 +5,15 @@ use Rattle.p21_parse.specs.Tree.{ExchangeTree}
 use Rattle.p21_parse.specs.Text.{IsText}
 use Rattle.entity_types.specs.declared.entity.Entity.{Entity}
 use Rattle.entity_read.specs.Typed.{entity_of}
+use Rattle.project_store.specs.Entities.{entity_at}
 use Rattle.project_store.specs.Build.{fault_of}
+use Rattle.exec_tree.specs.TreeFault.{first_tree_fault}
+use Rattle.exec_tree.specs.Built.{main_of, steps_of}
 use Rattle.project_read.specs.Typing.{all_typed}
-use Rattle.project_read.specs.Plan.{IsPlan}
 use Rattle.project_read.specs.Faults.{has_def}
 use Rattle.project_read.specs.declared.project.TheConstants.{MAX_PROJECT_BYTES}
 
--- a project: its entities in file order, the number of its main workplan, and the workingsteps that are the plan's elements
+-- a project: its entities in file order, the number of its main workplan, and the workingsteps of the tree from there on, in preorder
 pub record Project : Type 0 where
   pub entities : List Entity
   pub main : ℕ
@@ -33,12 +35,14 @@ pub record HasStore (bytes : List ℕ) (entities : List Entity) : Type 0 where
   pub has : HasEntities bytes entities
   pub built : fault_of entities ≡ None
 
--- and the main workplan is one that this stage can run
-pub record HasPlan (bytes : List ℕ) (p : Project) : Type 0 where
+-- and the executables from the main workplan on are a tree, with these workingsteps
+pub record HasTree (bytes : List ℕ) (p : Project) : Type 0 where
   pub has : HasStore bytes p.entities
-  pub plan : IsPlan p.entities p.main p.steps
+  pub main_is : p.main ≡ main_of p.entities
+  pub treed : first_tree_fault (entity_at p.entities) p.main ≡ None
+  pub steps_are : p.steps ≡ steps_of (entity_at p.entities) p.main
 
 -- the bytes hold the project: and each of its workingsteps has a definition
 pub record Holds (bytes : List ℕ) (p : Project) : Type 0 where
-  pub has : HasPlan bytes p
+  pub has : HasTree bytes p
   pub defined : list_all (has_def p.entities) p.steps ≡ true

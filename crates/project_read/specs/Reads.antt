@@ -8,13 +8,13 @@ use Rattle.entity_types.specs.declared.entity.Entity.{Entity}
 use Rattle.entity_read.specs.Typed.{entity_of}
 use Rattle.project_store.specs.Entities.{entity_at, numbers_of}
 use Rattle.step_def.specs.DefOf.{def_of}
+use Rattle.exec_tree.specs.Built.{main_of, IsTreeOf}
 use Rattle.path_blocks.specs.declared.step.Step.{Step}
-use Rattle.project_read.specs.declared.reason.ProjectReason.TheVariants.{Attribute, NotBuilt, Definition}
+use Rattle.project_read.specs.declared.reason.ProjectReason.TheVariants.{Attribute, Definition}
 use Rattle.project_read.specs.declared.reason.ProjectErr.{ProjectErr}
 use Rattle.project_read.specs.declared.reason.ProjectErr.TheVariants.{Refused, NoMemory}
 use Rattle.project_read.specs.declared.project.Project.{Project as Held}
 use Rattle.project_read.specs.Typing.{all_typed}
-use Rattle.project_read.specs.Plan.{IsPlan}
 use Rattle.project_read.specs.Faults.{has_def, is_among, IsLeastFault}
 use Rattle.project_read.specs.Holds.{Project, HasEntities, HasStore, Holds}
 use Rattle.project_read.specs.Refuses.{Refuses}
@@ -37,12 +37,6 @@ abbrev pub ReadsStore : List ℕ → Result (List Entity) ProjectErr → Type 0
 ReadsStore bytes (Ok entities) = HasStore bytes entities
 ReadsStore bytes (Err (Refused reason)) = Refuses bytes reason
 ReadsStore bytes (Err NoMemory) = Unit {0}
-
--- why there is no main workplan that can be run, unless memory ran out
-abbrev pub HasNoPlan : List Entity → ProjectErr → Type 0
-HasNoPlan entities (Refused NotBuilt) = (main : ℕ) (steps : List ℕ) → IsPlan entities main steps → ⊥
-HasNoPlan entities (Refused reason) = ⊥
-HasNoPlan entities NoMemory = Unit {0}
 
 -- of these workingsteps the first that has no definition is the least that has none
 abbrev pub IsLeastFirst : List Entity → List ℕ → Type 0
@@ -68,10 +62,10 @@ AreSteps entities numbers (Err NoMemory) = Unit {0}
 
 -- what the program holds of a project
 abbrev pub model_of : Held → Project
-model_of p = record { entities = p.store; main = p.main; steps = step_numbers p.steps.items }
+model_of p = record { entities = p.store; main = main_of p.store; steps = step_numbers p.steps.items }
 
--- the project that stands in the bytes with its steps' definitions, or why none stands there, unless memory ran out
+-- the project that stands in the bytes with its tree and its steps' definitions, or why none stands there, unless memory ran out
 abbrev pub Reads : List ℕ → Result Held ProjectErr → Type 0
-Reads bytes (Ok p) = Holds bytes (model_of p) × HaveDefs p.store p.steps.items
+Reads bytes (Ok p) = Holds bytes (model_of p) × HaveDefs p.store p.steps.items × IsTreeOf (entity_at p.store) (main_of p.store) p.tree
 Reads bytes (Err (Refused reason)) = Refuses bytes reason
 Reads bytes (Err NoMemory) = Unit {0}

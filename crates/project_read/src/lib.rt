@@ -3,14 +3,13 @@
 //! | module | what is in it | calls |
 //! |---|---|---|
 //! | reading | from bytes to a project | `project_in` |
-//! | project | a project that can be run | `Project` |
+//! | project | a project | `Project` |
 //! | reason | why a project is refused | `ProjectReason`, `ProjectErr` |
 //! | laws | bytes hold one project at most, and are refused for one reason at most | `project_laws` |
 //! | slices | the entities of a file, slice after slice | |
 //! | gathered | what is kept of the slices so far | |
 //! | entities | the entities of instances | |
-//! | plan | the main workplan | |
-//! | steps | the definitions of the main workplan's workingsteps | |
+//! | steps | the definitions of the tree's workingsteps | |
 //!
 //! Its tests stand in the crate definition_tests.
 #![tactic(auto)]
@@ -18,7 +17,6 @@
 mod entities;
 mod gathered;
 mod laws;
-mod plan;
 mod project;
 mod reading;
 mod reason;

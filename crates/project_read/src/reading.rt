@@ -6,12 +6,13 @@ ghost use Rattle.project_store.specs.Entities.{numbers_of};
 ghost use Rattle.project_read.specs.Holds.{HasEntities, HasStore};
 ghost use Rattle.project_read.specs.Reads.{Reads, ReadsStore};
 
-use crate::plan::plan_of;
 use crate::project::{MAX_PROJECT_BYTES, Project};
 use crate::reason::ProjectErr;
 use crate::slices::entities_in;
 use crate::steps::steps_of;
 use entity_types::Entity;
+use exec_tree::build;
+use exec_tree::laws::trees_tell;
 use project_store::Store;
 use std::alloc::Global;
 
@@ -19,9 +20,10 @@ use std::alloc::Global;
 fn project_of(alloc: Global, store: Store) -> Result<Project, ProjectErr>
     ensures { (bytes : List ℕ) → HasStore bytes store → Reads bytes result }
 {
-    let (main, numbers) = plan_of(alloc, &store)?;
-    let steps = steps_of(alloc, &store, numbers)?;
-    Ok(Project { store, main, steps })
+    let tree = build(alloc, &store)?;
+    trees_tell();
+    let steps = steps_of(alloc, &store, tree.steps())?;
+    Ok(Project { store, tree, steps })
 }
 
 /// The store of a file's entities.
@@ -42,10 +44,11 @@ fn store_in(alloc: Global, bytes: &[u8]) -> Result<Store, ProjectErr>
 }
 
 /// The project in the bytes of a file, of at most `MAX_PROJECT_BYTES`: they are clear text (ISO 10303-21) of one exchange, its instances are
-/// entities (ISO 14649-10 and ISO 14649-11, by this profile's table), and these are a project whose main workplan can be run.
+/// entities (ISO 14649-10 and ISO 14649-11, by this profile's table), these are a project whose executables are a tree, and each workingstep of
+/// the tree has a definition.
 ///
 /// # Errors
-/// The first reason why the bytes hold none, in the order of `ProjectReason`, but never `TooLong` or `NoStep`; or want of memory.
+/// The first reason why the bytes hold none, in the order of `ProjectReason`, but never `TooLong`, `NotBuilt` or `NoStep`; or want of memory.
 pub fn project_in(alloc: Global, bytes: &[u8]) -> Result<Project, ProjectErr>
     requires { length bytes.now ≤ MAX_PROJECT_BYTES }
     ensures { Reads bytes.now result }

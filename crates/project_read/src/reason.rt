@@ -3,6 +3,7 @@
 ghost use Rattle.std.specs.Prelude.{◌≡◌};
 
 use entity_read::TypeErr;
+use exec_tree::TreeErr;
 use nc_base::{NoMemory, Number};
 use p21_lex::LexErr;
 use p21_parse::ReadErr;
@@ -21,11 +22,13 @@ pub enum ProjectReason {
     Attribute(TypeErr),
     /// The entities are no project.
     Store(StoreErr),
-    /// The main workplan names a channel, or its elements aren't distinct workingsteps: this stage of the program can't run it.
-    NotBuilt,
-    /// The workingstep has no definition: of the main workplan's workingsteps with a fault the one of the least number.
+    /// The executables from the main workplan on are no tree: the first fault in preorder.
+    Tree(TreeErr),
+    /// The workingstep has no definition: of the tree's workingsteps with a fault the one of the least number.
     Definition(Number, DefFault),
-    /// The number isn't that of a workingstep of the main workplan.
+    /// The tree has a node that is neither the main workplan nor a workingstep directly in it: this stage of the program can't run it.
+    NotBuilt,
+    /// The number isn't that of a workingstep of the tree.
     NoStep(Number),
 }
 
@@ -103,6 +106,19 @@ impl From<StoreErr> for ProjectErr {
         match e {
             StoreErr::NoMemory => ProjectErr::NoMemory,
             fault => ProjectErr::Refused(ProjectReason::Store(fault)),
+        }
+    }
+}
+
+impl From<TreeErr> for ProjectErr {
+    ghost use Rattle.project_read.specs.Errors.{from_tree};
+
+    ghost from_gives = { λ t e. e ≡ from_tree t };
+
+    fn from(e: TreeErr) -> ProjectErr {
+        match e {
+            TreeErr::NoMemory => ProjectErr::NoMemory,
+            fault => ProjectErr::Refused(ProjectReason::Tree(fault)),
         }
     }
 }

@@ -1,8 +1,9 @@
-//! The definitions of a workplan's workingsteps.
+//! The definitions of a tree's workingsteps.
 
 ghost use Rattle.std.specs.Prelude.{◌≡◌, ◌≤◌, true, length, IsTrue};
 ghost use Rattle.std.specs.List.{AllAdjacentBelow, list_all};
-ghost use Rattle.project_read.specs.Plan.{is_workingstep};
+ghost use Rattle.project_store.specs.Entities.{entity_at};
+ghost use Rattle.step_def.specs.Condition.{is_workingstep};
 ghost use Rattle.project_read.specs.Reads.{AreSteps, IsLeastFirst};
 
 use crate::reason::{ProjectErr, ProjectReason};
@@ -28,7 +29,7 @@ fn steps_in_order<L: Ledger>(
     numbers: &[Number],
     counter: &mut Steps<L>,
 ) -> Result<Vec<Step>, ProjectErr>
-    requires workingsteps { list_all (is_workingstep store.now) numbers.now ≡ true }
+    requires workingsteps { list_all (is_workingstep (entity_at store.now)) numbers.now ≡ true }
     requires least_first { IsLeastFirst store.now numbers.now }
     ensures { AreSteps store.now numbers.now result }
 {
@@ -55,7 +56,7 @@ fn steps_counted<L: Ledger>(
     requires name { blank.name ≡ L.name }
     requires parts { blank.parts ≡ L.parts }
     requires one { blank.parts ≡ 1 }
-    requires workingsteps { list_all (is_workingstep store.now) numbers.now ≡ true }
+    requires workingsteps { list_all (is_workingstep (entity_at store.now)) numbers.now ≡ true }
     ensures { AreSteps store.now numbers.now result }
 {
     let (book, share) = blank.open::<L>();
@@ -71,7 +72,7 @@ fn steps_counted<L: Ledger>(
 
 /// The steps of these workingsteps with their definitions.
 pub fn steps_of(alloc: Global, store: &Store, numbers: &[Number]) -> Result<Vec<Step>, ProjectErr>
-    requires { list_all (is_workingstep store.now) numbers.now ≡ true }
+    requires { list_all (is_workingstep (entity_at store.now)) numbers.now ≡ true }
     ensures { AreSteps store.now numbers.now result }
 {
     steps_counted::<Brand>(alloc, store, numbers, Blank::new(1))

@@ -2,7 +2,8 @@ use Rattle.std.proofs.Common.{◌≡◌, List, ℕ, sym, subst}
 use Rattle.std.specs.List.Sorted.{IsPermutation, IsNonDecreasing}
 use Rattle.std.proofs.lemmas.Result.{err_from_is_err_and}
 use Rattle.std.proofs.lemmas.List.Sorted.{IsPermutation-sym, IsNonDecreasingBy-from_sort, IsNonDecreasingBy-from_all_adjacent}
-use Rattle.project_read.specs.Plan.{is_workingstep}
+use Rattle.project_store.specs.Entities.{entity_at}
+use Rattle.step_def.specs.Condition.{is_workingstep}
 use Rattle.project_read.specs.Faults.{has_def}
 use Rattle.project_read.proofs.Faulting.{ordered_first, all_first, all_moved, fault_moved}
 use Rattle.project_read.proofs.steps.steps_counted.Goals as goal
@@ -17,7 +18,7 @@ moved ns copy sorted slice same to there = subst (λ (xs : List ℕ). IsPermutat
 
 pub steps_in_order-requires-2-clause-workingsteps : goal.steps_in_order-requires-2-clause-workingsteps
 steps_in_order-requires-2-clause-workingsteps g c =
-    all_moved (is_workingstep c.args.store.now) c.args.numbers.now c.as_slice.result.now
+    all_moved (is_workingstep (entity_at c.args.store.now)) c.args.numbers.now c.as_slice.result.now
     (moved c.args.numbers.now c.in_ok-ordered.ordered.items c.sort.new.self.items c.as_slice.result.now c.in_ok-ordered.ensures.items c.in_ok-sort.ensures.permutation c.as_slice.ensures.value) c.requires.workingsteps
 
 pub steps_in_order-requires-2-clause-least_first : goal.steps_in_order-requires-2-clause-least_first
