@@ -1,5 +1,5 @@
 -- Words and the bytes of the file that they name have one answer.
-use Rattle.std.proofs.Common.{◌≡◌, ℕ, false, List, Option, Some, Result, Ok, Err, refl, sym, ap, subst, ◌∙◌, inl, inr}
+use Rattle.std.proofs.Common.{◌≡◌, ℕ, true, false, List, Option, Some, Result, Ok, Err, refl, sym, ap, subst, ◌∙◌, inl, inr}
 use Rattle.std.specs.Prelude.{◌⊎◌, IfSome}
 use Rattle.path_blocks.specs.declared.def.Def.{Def}
 use Rattle.path_blocks.specs.Path.{path_of}
@@ -18,7 +18,8 @@ use Rattle.controller.specs.Words.{NamesProject}
 use Rattle.controller.specs.Meaning.{Meaning, Replay, Path, Help, Version, Bad, Mean}
 use Rattle.controller.specs.Texts.{bad_words_line, help_text, version_text}
 use Rattle.controller.specs.Refusal.{refusal_line}
-use Rattle.controller.specs.Asked.{IsStep, IsLog, IsDefinition, HasNoProject, HasNoStep, IsRefused, IsWritten, IsRight}
+use Rattle.controller.specs.Asked.{IsStep, IsLog, IsDefinition, HasNoProject, HasNoStep, HasNotBuilt, IsRefused, IsWritten, IsRight}
+use Rattle.project_law.specs.Run.{tree_of_project, is_plain}
 use Rattle.controller.specs.Kinds.{Ran, kind_of, IsTold}
 use Rattle.controller.proofs.CommandLemmas.{no_test}
 
@@ -63,9 +64,19 @@ record Present (p : Project) (n : ℕ) (s : Status) (x : List ℕ) : Type 0 wher
   step : IsStep p n definition
   says : Are s x statuses.Written (blocks_text (path_of definition))
 
+-- the project's tree isn't one that can be run
+record Unbuilt (p : Project) (s : Status) (x : List ℕ) : Type 0 where
+  unbuilt : is_plain (tree_of_project p) ≡ false
+  says : Are s x (statuses.ProjectRefused reasons.NotBuilt) (refusal_line reasons.NotBuilt)
+
+-- the project's tree is one that can be run, and a run is written
+record Built (p : Project) (s : Status) : Type 0 where
+  built : is_plain (tree_of_project p) ≡ true
+  kind : kind_of s ≡ Ran
+
 -- the status and the text that follow from what the words mean and what the file gives
 abbrev Follows : Meaning → Result Project ProjectReason → Status → List ℕ → Type 0
-Follows (Replay name limit) (Ok p) s x = kind_of s ≡ Ran
+Follows (Replay name limit) (Ok p) s x = Unbuilt p s x ⊎ Built p s
 Follows (Replay name limit) (Err reason) s x = Are s x (statuses.ProjectRefused reason) (refusal_line reason)
 Follows (Path name n) (Ok p) s x = Absent p n s x ⊎ Present p n s x
 Follows (Path name n) (Err reason) s x = Are s x (statuses.ProjectRefused reason) (refusal_line reason)
@@ -94,6 +105,12 @@ told_absence held n told is =
     let h = subst (λ (o : Option (List ℕ)). IfSome o (λ bytes. (p : Project) × Holds bytes p × (is_among p.steps n ≡ false))) told.1 is in
     (h.0, (told.0, told.1, h.1), h.2)
 
+told_unbuilt : (held : Option (List ℕ)) → (bytes : List ℕ) × (held ≡ Some bytes) → IfSome held (λ bytes. (p : Project) × Holds bytes p × (is_plain (tree_of_project p) ≡ false))
+    → (p : Project) × Gives held (Ok p) × (is_plain (tree_of_project p) ≡ false)
+told_unbuilt held told is =
+    let h = subst (λ (o : Option (List ℕ)). IfSome o (λ bytes. (p : Project) × Holds bytes p × (is_plain (tree_of_project p) ≡ false))) told.1 is in
+    (h.0, (told.0, told.1, h.1), h.2)
+
 -- the cause of each right answer
 of_log : (ws : List (List ℕ)) (holds : List ℕ → Option (List ℕ)) (s : Status) (x : List ℕ) (t : List Entry) (ending : Ending) → IsTold ws holds → IsLog ws holds t ending → kind_of s ≡ Ran → Caused ws holds s x
 of_log ws holds s x t ending told is kind = record {
@@ -101,7 +118,7 @@ of_log ws holds s x t ending told is kind = record {
   means = is.asked;
   file = Ok is.project;
   read = told_project (holds is.name) is.project (told is.name (inl (is.limit, is.asked))) is.held;
-  follows = kind;
+  follows = inr (record { built = is.built; kind = kind });
 }
 
 of_path : (ws : List (List ℕ)) (holds : List ℕ → Option (List ℕ)) (x : List ℕ) (d : Def) → IsTold ws holds → IsDefinition ws holds d → x ≡ blocks_text (path_of d) → Caused ws holds statuses.Written x
@@ -133,6 +150,11 @@ of_no_step ws holds x n told is text =
     let h = told_absence (holds is.name) n (told is.name (inr (n, is.asked))) is.absent in
     record { meaning = Path is.name n; means = is.asked; file = Ok h.0; read = h.1; follows = inl (record { absent = h.2; says = (refl, text) }) }
 
+of_not_built : (ws : List (List ℕ)) (holds : List ℕ → Option (List ℕ)) (x : List ℕ) → IsTold ws holds → HasNotBuilt ws holds → x ≡ refusal_line reasons.NotBuilt → Caused ws holds (statuses.ProjectRefused reasons.NotBuilt) x
+of_not_built ws holds x told is text =
+    let h = told_unbuilt (holds is.name) (told is.name (inl (is.limit, is.asked))) is.unbuilt in
+    record { meaning = Replay is.name is.limit; means = is.asked; file = Ok h.0; read = h.1; follows = inl (record { unbuilt = h.2; says = (refl, text) }) }
+
 of_refused : (ws : List (List ℕ)) (holds : List ℕ → Option (List ℕ)) (x : List ℕ) (reason : ProjectReason) → IsTold ws holds → IsRefused ws holds reason → x ≡ refusal_line reason
     → Caused ws holds (statuses.ProjectRefused reason) x
 of_refused ws holds x (reasons.NoStep n) told is text = of_no_step ws holds x n told is text
@@ -140,7 +162,8 @@ of_refused ws holds x reasons.TooLong told is text = of_no_project ws holds x re
 of_refused ws holds x (reasons.Read fault) told is text = of_no_project ws holds x (reasons.Read fault) told is text
 of_refused ws holds x (reasons.Attribute fault) told is text = of_no_project ws holds x (reasons.Attribute fault) told is text
 of_refused ws holds x (reasons.Store fault) told is text = of_no_project ws holds x (reasons.Store fault) told is text
-of_refused ws holds x reasons.NotBuilt told is text = of_no_project ws holds x reasons.NotBuilt told is text
+of_refused ws holds x (reasons.Tree fault) told is text = of_no_project ws holds x (reasons.Tree fault) told is text
+of_refused ws holds x reasons.NotBuilt told is text = of_not_built ws holds x told is text
 of_refused ws holds x (reasons.Definition n fault) told is text = of_no_project ws holds x (reasons.Definition n fault) told is text
 
 caused : (ws : List (List ℕ)) (holds : List ℕ → Option (List ℕ)) (s : Status) (x : List ℕ) → IsTold ws holds → IsRight ws holds s x → Caused ws holds s x
@@ -203,8 +226,14 @@ agree_step p n s t x y (inr h) (inl k) = absurd (no_test (is_among p.steps n) h.
 agree_step p n s t x y (inr h) (inr k) =
     agree s t _ x y _ h.says (k.says.0, k.says.1 ∙ ap (λ (d : Def). blocks_text (path_of d)) (same_definition p n h.definition k.definition h.step k.step))
 
+agree_run : (p : Project) (s t : Status) (x y : List ℕ) → Unbuilt p s x ⊎ Built p s → Unbuilt p t y ⊎ Built p t → Agree s x t y
+agree_run p s t x y (inl h) (inl k) = agree s t _ x y _ h.says k.says
+agree_run p s t x y (inl h) (inr k) = absurd (no_test (is_plain (tree_of_project p)) k.built h.unbuilt)
+agree_run p s t x y (inr h) (inl k) = absurd (no_test (is_plain (tree_of_project p)) h.built k.unbuilt)
+agree_run p s t x y (inr h) (inr k) = record { kinds = h.kind ∙ sym k.kind; same = λ other. absurd (other h.kind) }
+
 follow_one : (m : Meaning) (r : Result Project ProjectReason) (s t : Status) (x y : List ℕ) → Follows m r s x → Follows m r t y → Agree s x t y
-follow_one (Replay name limit) (Ok p) s t x y h k = record { kinds = h ∙ sym k; same = λ other. absurd (other h) }
+follow_one (Replay name limit) (Ok p) s t x y h k = agree_run p s t x y h k
 follow_one (Replay name limit) (Err reason) s t x y h k = agree s t _ x y _ h k
 follow_one (Path name n) (Ok p) s t x y h k = agree_step p n s t x y h k
 follow_one (Path name n) (Err reason) s t x y h k = agree s t _ x y _ h k

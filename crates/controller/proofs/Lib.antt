@@ -4,5 +4,6 @@ pub mod LawsLemmas
 pub mod AnswersLemmas
 pub mod RefusalLemmas
 pub mod ReplayingLemmas
+pub mod PlainLemmas
 pub mod ShowingLemmas
 pub mod TopCallsLemmas

@@ -26,18 +26,29 @@ refused ws holds name reasons.TooLong named is = record { name = name; named = n
 refused ws holds name (reasons.Read fault) named is = record { name = name; named = named; refused = is.0 }
 refused ws holds name (reasons.Attribute fault) named is = record { name = name; named = named; refused = is.0 }
 refused ws holds name (reasons.Store fault) named is = record { name = name; named = named; refused = is.0 }
-refused ws holds name reasons.NotBuilt named is = record { name = name; named = named; refused = is.0 }
+refused ws holds name (reasons.Tree fault) named is = record { name = name; named = named; refused = is.0 }
+refused ws holds name reasons.NotBuilt named is = absurd is.1
 refused ws holds name (reasons.Definition n fault) named is = record { name = name; named = named; refused = is.0 }
+
+not_replayed : (ws : List (List ℕ)) (holds : List ℕ → Option (List ℕ)) (name : List ℕ) (limit : ℕ) (reason : ProjectReason) → IsReplay ws name limit → Replays (holds name) limit (answers.Refused reason) → IsRefused ws holds reason
+not_replayed ws holds name limit reasons.NotBuilt asked is = record { name = name; limit = limit; asked = asked; unbuilt = is }
+not_replayed ws holds name limit reasons.TooLong asked is = refused ws holds name reasons.TooLong (inl (limit, asked)) is
+not_replayed ws holds name limit (reasons.Read fault) asked is = refused ws holds name (reasons.Read fault) (inl (limit, asked)) is
+not_replayed ws holds name limit (reasons.Attribute fault) asked is = refused ws holds name (reasons.Attribute fault) (inl (limit, asked)) is
+not_replayed ws holds name limit (reasons.Store fault) asked is = refused ws holds name (reasons.Store fault) (inl (limit, asked)) is
+not_replayed ws holds name limit (reasons.Tree fault) asked is = refused ws holds name (reasons.Tree fault) (inl (limit, asked)) is
+not_replayed ws holds name limit (reasons.Definition n fault) asked is = refused ws holds name (reasons.Definition n fault) (inl (limit, asked)) is
+not_replayed ws holds name limit (reasons.NoStep n) asked is = refused ws holds name (reasons.NoStep n) (inl (limit, asked)) is
 
 -- what comes of a replay of the file that the words name is right for them
 pub replayed : (ws : List (List ℕ)) (holds : List ℕ → Option (List ℕ)) (name : List ℕ) (limit : ℕ) (a : Answer) → IsReplay ws name limit → Replays (holds name) limit a → IsAnswer ws holds a
 replayed ws holds name limit (answers.BadWords place) asked is = absurd is
 replayed ws holds name limit answers.Help asked is = absurd is
 replayed ws holds name limit answers.Version asked is = absurd is
-replayed ws holds name limit (answers.Refused reason) asked is = (refused ws holds name reason (inl (limit, asked)) is, refl)
-replayed ws holds name limit (answers.Ran t endings.Done) asked is = (t, record { name = name; limit = limit; asked = asked; project = is.0; held = is.1; run = is.2 }, refl)
-replayed ws holds name limit (answers.Ran t endings.Blocked) asked is = (t, record { name = name; limit = limit; asked = asked; project = is.0; held = is.1; run = is.2 }, refl)
-replayed ws holds name limit (answers.Ran t endings.Limit) asked is = (t, record { name = name; limit = limit; asked = asked; project = is.0; held = is.1; run = is.2 }, refl)
+replayed ws holds name limit (answers.Refused reason) asked is = (not_replayed ws holds name limit reason asked is, refl)
+replayed ws holds name limit (answers.Ran t endings.Done) asked is = (t, record { name = name; limit = limit; asked = asked; project = is.0; held = is.1; built = is.2; run = is.3 }, refl)
+replayed ws holds name limit (answers.Ran t endings.Blocked) asked is = (t, record { name = name; limit = limit; asked = asked; project = is.0; held = is.1; built = is.2; run = is.3 }, refl)
+replayed ws holds name limit (answers.Ran t endings.Limit) asked is = (t, record { name = name; limit = limit; asked = asked; project = is.0; held = is.1; built = is.2; run = is.3 }, refl)
 replayed ws holds name limit (answers.Shown d) asked is = absurd is
 
 not_shown : (ws : List (List ℕ)) (holds : List ℕ → Option (List ℕ)) (name : List ℕ) (n : ℕ) (reason : ProjectReason) → IsPath ws name n → Shows (holds name) n (answers.Refused reason) → IsRefused ws holds reason
@@ -50,6 +61,7 @@ not_shown ws holds name n reasons.TooLong asked is = refused ws holds name reaso
 not_shown ws holds name n (reasons.Read fault) asked is = refused ws holds name (reasons.Read fault) (inr (n, asked)) is
 not_shown ws holds name n (reasons.Attribute fault) asked is = refused ws holds name (reasons.Attribute fault) (inr (n, asked)) is
 not_shown ws holds name n (reasons.Store fault) asked is = refused ws holds name (reasons.Store fault) (inr (n, asked)) is
+not_shown ws holds name n (reasons.Tree fault) asked is = refused ws holds name (reasons.Tree fault) (inr (n, asked)) is
 not_shown ws holds name n reasons.NotBuilt asked is = refused ws holds name reasons.NotBuilt (inr (n, asked)) is
 not_shown ws holds name n (reasons.Definition m fault) asked is = refused ws holds name (reasons.Definition m fault) (inr (n, asked)) is
 

@@ -5,7 +5,7 @@ use Rattle.path_blocks.specs.Path.{path_of}
 use Rattle.project_store.specs.Entities.{entity_at}
 use Rattle.step_def.specs.DefOf.{def_of}
 use Rattle.project_read.specs.declared.reason.ProjectReason.{ProjectReason}
-use Rattle.project_read.specs.declared.reason.ProjectReason.TheVariants.{NoStep}
+use Rattle.project_read.specs.declared.reason.ProjectReason.TheVariants.{NotBuilt, NoStep}
 use Rattle.project_read.specs.Faults.{is_among}
 use Rattle.project_read.specs.Holds.{Project, Holds}
 use Rattle.project_read.specs.Refuses.{Refuses}
@@ -19,7 +19,7 @@ use Rattle.controller.specs.declared.status.Status.TheVariants.{Done, Blocked, R
 use Rattle.controller.specs.Words.{help_line, version_line, is_line, IsReplay, IsPath, NamesProject, AreBadAt}
 use Rattle.controller.specs.Texts.{bad_words_line, help_text, version_text}
 use Rattle.controller.specs.Refusal.{refusal_line}
-use Rattle.project_law.specs.Run.{IsRun}
+use Rattle.project_law.specs.Run.{tree_of_project, is_plain, IsRun}
 
 -- the file of this name holds the project, where it is told what it holds
 abbrev pub HoldsProject : (List ℕ → Option (List ℕ)) → List ℕ → Project → Type 0
@@ -30,13 +30,15 @@ pub record IsStep (p : Project) (n : ℕ) (d : Def) : Type 0 where
   pub among : is_among p.steps n ≡ true
   pub defined : def_of (entity_at p.entities) n ≡ Ok d
 
--- the words ask for a replay, and t is the log of a legal run of the project in the file that they name, up to the limit that they name, with this ending
+-- the words ask for a replay, and t is the log of a legal run of the project in the file that they name, up to the limit that they name, with this ending.
+-- Its tree is one that this stage of the program can run
 pub record IsLog (words : List (List ℕ)) (holds : List ℕ → Option (List ℕ)) (t : List Entry) (ending : Ending) : Type 0 where
   pub name : List ℕ
   pub limit : ℕ
   pub asked : IsReplay words name limit
   pub project : Project
   pub held : HoldsProject holds name project
+  pub built : is_plain (tree_of_project project) ≡ true
   pub run : IsRun project limit t ending
 
 -- the words ask for the path of a workingstep of the project in the file that they name, and this is its definition
@@ -60,9 +62,17 @@ pub record HasNoStep (words : List (List ℕ)) (holds : List ℕ → Option (Lis
   pub asked : IsPath words name n
   pub absent : IfSome (holds name) (λ bytes. (p : Project) × Holds bytes p × (is_among p.steps n ≡ false))
 
+-- the words ask for a replay, and the tree of the project in the file that they name isn't one that this stage of the program can run
+pub record HasNotBuilt (words : List (List ℕ)) (holds : List ℕ → Option (List ℕ)) : Type 0 where
+  pub name : List ℕ
+  pub limit : ℕ
+  pub asked : IsReplay words name limit
+  pub unbuilt : IfSome (holds name) (λ bytes. (p : Project) × Holds bytes p × (is_plain (tree_of_project p) ≡ false))
+
 -- why the project that the words name is refused
 abbrev pub IsRefused : List (List ℕ) → (List ℕ → Option (List ℕ)) → ProjectReason → Type 0
 IsRefused words holds (NoStep n) = HasNoStep words holds n
+IsRefused words holds NotBuilt = HasNotBuilt words holds
 IsRefused words holds reason = HasNoProject words holds reason
 
 -- what is written for the words: the path of a workingstep block by block, the commands, or the version

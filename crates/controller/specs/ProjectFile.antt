@@ -1,9 +1,9 @@
 -- What comes of a project file, whose bytes are told or not.
-use Rattle.std.specs.Prelude.{◌≡◌, ℕ, false, List, Option, Result, Ok, Err, IfSome}
+use Rattle.std.specs.Prelude.{◌≡◌, ℕ, true, false, List, Option, Result, Ok, Err, IfSome}
 use Rattle.nc_outside.specs.Outside.{Rose, Appends, AppendsFront}
 use Rattle.project_read.specs.declared.project.Project.{Project as Held}
 use Rattle.project_read.specs.declared.reason.ProjectReason.{ProjectReason}
-use Rattle.project_read.specs.declared.reason.ProjectReason.TheVariants.{NoStep}
+use Rattle.project_read.specs.declared.reason.ProjectReason.TheVariants.{NotBuilt, NoStep}
 use Rattle.project_read.specs.Faults.{is_among}
 use Rattle.project_read.specs.Holds.{Project, Holds}
 use Rattle.project_read.specs.Refuses.{Refuses}
@@ -16,7 +16,7 @@ use Rattle.controller.specs.declared.project_file.Unheld.{Unheld}
 use Rattle.controller.specs.declared.project_file.Unheld.TheVariants as unheld
 use Rattle.controller.specs.declared.status.Status.{Status}
 use Rattle.controller.specs.declared.status.Status.TheVariants.{WriteFault}
-use Rattle.project_law.specs.Run.{IsRun}
+use Rattle.project_law.specs.Run.{tree_of_project, is_plain, IsRun}
 use Rattle.controller.specs.Words.{NamesProject}
 use Rattle.controller.specs.Asked.{IsStep, IsRight}
 use Rattle.controller.specs.Answer.{answer_status, answer_text}
@@ -28,6 +28,7 @@ AreBytesOf held bytes = IfSome held (λ told. bytes ≡ told)
 -- a reason that lies in the file alone
 abbrev pub IsOfFile : ProjectReason → Type 0
 IsOfFile (NoStep n) = ⊥
+IsOfFile NotBuilt = ⊥
 IsOfFile reason = Unit {0}
 
 -- the file's bytes hold no project, for this reason
@@ -50,11 +51,6 @@ abbrev pub answer_without : Unheld → Result Answer Stop
 answer_without (unheld.Refused reason) = Ok (Refused reason)
 answer_without (unheld.Stopped stop) = Err stop
 
--- the log of a run of the project
-abbrev pub RunsProject : Project → ℕ → Answer → Type 0
-RunsProject p limit (Ran t ending) = IsRun p limit t ending
-RunsProject p limit _ = ⊥
-
 -- the definition of workingstep n of the project, or that it has none such
 abbrev pub ShowsStep : Project → ℕ → Answer → Type 0
 ShowsStep p n (Refused (NoStep m)) = (m ≡ n) × (is_among p.steps n ≡ false)
@@ -69,8 +65,9 @@ OrNoMemory Is (Err stops.NoMemory) = Unit {0}
 
 -- what comes of a replay of a file
 abbrev pub Replays : Option (List ℕ) → ℕ → Answer → Type 0
+Replays held limit (Refused NotBuilt) = IfSome held (λ bytes. (p : Project) × Holds bytes p × (is_plain (tree_of_project p) ≡ false))
 Replays held limit (Refused reason) = IsRefusedFile held reason
-Replays held limit (Ran t ending) = (p : Project) × IfSome held (λ bytes. Holds bytes p) × IsRun p limit t ending
+Replays held limit (Ran t ending) = (p : Project) × IfSome held (λ bytes. Holds bytes p) × (is_plain (tree_of_project p) ≡ true) × IsRun p limit t ending
 Replays held limit _ = ⊥
 
 -- what comes of the path of workingstep n in a file

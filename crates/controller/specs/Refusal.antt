@@ -11,7 +11,9 @@ use Rattle.project_store.specs.declared.error.StoreErr.TheVariants as stores
 use Rattle.step_def.specs.declared.fault.DefFault.{DefFault}
 use Rattle.step_def.specs.declared.fault.DefFault.TheVariants.{Missing, HasToolpath, BadDirection, Mismatch, NotRectangle, NotPositive, OutOfRange, ToolTooBig, TooManyBlocks}
 use Rattle.project_read.specs.declared.reason.ProjectReason.{ProjectReason}
-use Rattle.project_read.specs.declared.reason.ProjectReason.TheVariants.{TooLong, Read, Attribute, Store, NotBuilt, Definition, NoStep}
+use Rattle.project_read.specs.declared.reason.ProjectReason.TheVariants.{TooLong, Read, Attribute, Store, Tree, Definition, NotBuilt, NoStep}
+use Rattle.exec_tree.specs.declared.error.TreeErr.{TreeErr}
+use Rattle.exec_tree.specs.declared.error.TreeErr.TheVariants as trees
 use Rattle.controller.specs.Texts.{row}
 
 -- a name with a number behind it
@@ -49,6 +51,16 @@ store_text (stores.Unresolved n reference) = two (codes "Unresolved") n referenc
 store_text (stores.WrongKind n position) = two (codes "WrongKind") n position
 store_text stores.NoMemory = codes "NoMemory"
 
+-- a tree that is too deep is written apart from parentheses that are
+abbrev pub tree_text : TreeErr → List ℕ
+tree_text (trees.Shared n) = one (codes "Shared") n
+tree_text (trees.TooDeep n) = one (codes "TreeTooDeep") n
+tree_text trees.TooManyNodes = codes "TooManyNodes"
+tree_text (trees.ExprTooBig n) = one (codes "ExprTooBig") n
+tree_text trees.TooManyChannels = codes "TooManyChannels"
+tree_text (trees.NewChannel n) = one (codes "NewChannel") n
+tree_text trees.NoMemory = codes "NoMemory"
+
 abbrev pub fault_text : DefFault → List ℕ
 fault_text (Missing n position) = two (codes "Missing") n position
 fault_text (HasToolpath operation) = one (codes "HasToolpath") operation
@@ -65,8 +77,9 @@ reason_text TooLong = codes "TooLong"
 reason_text (Read fault) = read_text fault
 reason_text (Attribute fault) = type_text fault
 reason_text (Store fault) = store_text fault
-reason_text NotBuilt = codes "NotBuilt"
+reason_text (Tree fault) = tree_text fault
 reason_text (Definition n fault) = one (codes "Definition") n ++ (codes " " ++ fault_text fault)
+reason_text NotBuilt = codes "NotBuilt"
 reason_text (NoStep n) = one (codes "NoStep") n
 
 abbrev pub refusal_line : ProjectReason → List ℕ

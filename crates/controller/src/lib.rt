@@ -9,6 +9,7 @@
 //! | laws | words mean one command or are bad at one place, and have one kind of answer | `word_laws`, `answer_laws` |
 //! | project_file | the project that a file holds | |
 //! | replaying, showing | what the commands do with a project | |
+//! | plain | whether this stage can run a project | |
 //! | answer, refusal | an answer before it is written, and its text | |
 //!
 //! Its tests stand in the crate controller_tests.
@@ -18,6 +19,7 @@ mod answer;
 mod command;
 mod laws;
 mod numerals;
+mod plain;
 mod project_file;
 mod refusal;
 mod replaying;

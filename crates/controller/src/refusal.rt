@@ -2,9 +2,10 @@
 
 ghost use Rattle.std.specs.Prelude.{◌≡◌, ◌+◌, ◌≤◌, ◌++◌, ◌∷◌, length, decimal};
 ghost use Rattle.arrayvec.specs.ArrayVec.{array_vec_len};
-ghost use Rattle.controller.specs.Refusal.{one, two, lex_text, read_text, type_text, store_text, fault_text, reason_text, refusal_line};
+ghost use Rattle.controller.specs.Refusal.{one, two, lex_text, read_text, type_text, store_text, tree_text, fault_text, reason_text, refusal_line};
 
 use entity_read::TypeErr;
+use exec_tree::TreeErr;
 use itoa::Buffer;
 use nc_base::{Line, put, put_number};
 use p21_lex::LexErr;
@@ -98,6 +99,23 @@ fn put_store(line: &mut Line, fault: StoreErr)
     }
 }
 
+/// Puts the fault of a tree at the line's end.
+fn put_tree(line: &mut Line, fault: TreeErr)
+    requires { array_vec_len line.old + 60 ≤ 256 }
+    ensures items { line.new.items ≡ line.old.items ++ tree_text fault }
+    ensures len { array_vec_len line.new ≤ array_vec_len line.old + 60 }
+{
+    match fault {
+        TreeErr::Shared(n) => put_one(line, b"Shared", n),
+        TreeErr::TooDeep(n) => put_one(line, b"TreeTooDeep", n),
+        TreeErr::TooManyNodes => put(line, b"TooManyNodes"),
+        TreeErr::ExprTooBig(n) => put_one(line, b"ExprTooBig", n),
+        TreeErr::TooManyChannels => put(line, b"TooManyChannels"),
+        TreeErr::NewChannel(n) => put_one(line, b"NewChannel", n),
+        TreeErr::NoMemory => put(line, b"NoMemory"),
+    }
+}
+
 /// Puts the fault of a definition at the line's end.
 fn put_fault(line: &mut Line, fault: DefFault)
     requires { array_vec_len line.old + 100 ≤ 256 }
@@ -130,12 +148,13 @@ fn put_reason(line: &mut Line, reason: ProjectReason)
         ProjectReason::Read(fault) => put_read(line, fault),
         ProjectReason::Attribute(fault) => put_type(line, fault),
         ProjectReason::Store(fault) => put_store(line, fault),
-        ProjectReason::NotBuilt => put(line, b"NotBuilt"),
+        ProjectReason::Tree(fault) => put_tree(line, fault),
         ProjectReason::Definition(n, fault) => {
             put_one(line, b"Definition", n);
             put(line, b" ");
             put_fault(line, fault);
         }
+        ProjectReason::NotBuilt => put(line, b"NotBuilt"),
         ProjectReason::NoStep(n) => put_one(line, b"NoStep", n),
     }
 }
