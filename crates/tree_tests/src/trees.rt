@@ -232,7 +232,7 @@ fn no_channel_comes_by_an_edit(rt: HostRuntime) -> Result<(), Fail> {
     let alloc = rt.alloc();
     let store = store(&rt, alloc, PROJECT)?;
     let old = build(alloc, &store)?;
-    let fault = after(alloc, &store, &old, workplan(alloc, 13, 8, 5)?)?.err();
+    let fault = after(alloc, &store, &old, workplan(alloc, 13, 8, 20)?)?.err();
     assert_eq!(&rt; fault, Some(TreeErr::Shared(8)));
     let fault = after(alloc, &store, &old, workplan(alloc, 13, 4, 22)?)?.err();
     assert_eq!(&rt; fault, Some(TreeErr::NewChannel(13)));
