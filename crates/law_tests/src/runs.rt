@@ -60,8 +60,8 @@ fn numbers(alloc: Global, words: &str) -> Result<Vec<Number>, Fail> {
     Ok(all)
 }
 
-// Stops unless the list is a run so far, a whole run, and free of strays as wanted.
-fn expect_decided(
+// Stops unless the list is a run so far where it is wanted.
+fn expect_part(
     rt: &impl Abort,
     alloc: Global,
     tree: &Tree,
@@ -72,7 +72,33 @@ fn expect_decided(
     requires { AreDistinct (nodes (tree_in tree.now)) }
 {
     assert_eq!(rt; part(alloc, tree, t)?, wanted != "no", "{row}");
+    Ok(())
+}
+
+// Stops unless the list is a whole run where it is wanted.
+fn expect_whole(
+    rt: &impl Abort,
+    alloc: Global,
+    tree: &Tree,
+    t: &[Entry],
+    row: &str,
+    wanted: &str,
+) -> Result<(), Fail>
+    requires { AreDistinct (nodes (tree_in tree.now)) }
+{
     assert_eq!(rt; whole(alloc, tree, t)?, wanted == "whole", "{row}");
+    Ok(())
+}
+
+// Stops unless an entry strays exactly where the list is no run so far.
+fn expect_stray(
+    rt: &impl Abort,
+    alloc: Global,
+    tree: &Tree,
+    t: &[Entry],
+    row: &str,
+    wanted: &str,
+) -> Result<(), Fail> {
     assert_eq!(rt;
         first_stray(alloc, tree, t)?.is_some(),
         wanted == "no",
@@ -105,7 +131,9 @@ fn expect_rows(rt: &impl Abort, alloc: Global, tree: &Tree, rows: &str) -> Resul
     for row in rows.lines() {
         let (words, wanted) = row.split_once("| ").unwrap_or(("", ""));
         let t = entries(alloc, words)?;
-        expect_decided(rt, alloc, tree, t.as_slice(), row, wanted)?;
+        expect_part(rt, alloc, tree, t.as_slice(), row, wanted)?;
+        expect_whole(rt, alloc, tree, t.as_slice(), row, wanted)?;
+        expect_stray(rt, alloc, tree, t.as_slice(), row, wanted)?;
         expect_next(rt, alloc, tree, t.as_slice(), row, wanted)?;
     }
     Ok(())

@@ -1,6 +1,6 @@
 //! Laws of the rules and the runs of a project. Each function's contract is the law.
 
-ghost use Rattle.std.specs.Prelude.{◌≡◌, ◌<◌, ℕ, max, length, List, None};
+ghost use Rattle.std.specs.Prelude.{◌≡◌, ◌<◌, ℕ, max, length, List, Option, None};
 ghost use Rattle.entity_types.specs.declared.entity.Entity.{Entity};
 ghost use Rattle.project_store.specs.Entities.{entity_at};
 ghost use Rattle.exec_tree.specs.TreeFault.{first_tree_fault};

@@ -3,6 +3,7 @@ use Rattle.std.specs.Prelude.{◌≡◌, ◌<◌, ℕ, List, [], ◌∷◌, ◌+
 use Rattle.run_log.specs.declared.entry.Entry.{Entry}
 use Rattle.run_law.specs.Rules.{Rules}
 
+-- they say the same of the tree and of each node
 pub record SaysSame (r q : Rules) (t : List Entry) : Type 0 where
   pub tree : r.tree t ≡ q.tree t
   pub role : (n : ℕ) → r.role t n ≡ q.role t n

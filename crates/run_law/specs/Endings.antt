@@ -22,6 +22,7 @@ waits_by t Cutting = false
 waits_by t (Waiting m) = not (has (marks t) m)
 waits_by t Free = false
 
+-- node n waits for a mark that is not set
 abbrev pub waits : Rules → List Entry → ℕ → Bool
 waits r t n = waits_by t (r.role t n)
 

@@ -18,6 +18,7 @@ use Rattle.nc_base.specs.declared.verdict.Verdict.{Verdict}
 abbrev pub is_plain : Entry → Bool
 is_plain x = is_some (number_of x)
 
+-- the entries of nodes, in order
 abbrev pub plain : List Entry → List Entry
 plain t = filter is_plain t
 
@@ -41,6 +42,7 @@ may_go_on r t n Cutting = is_open n t || not (is_busy r t (r.channel t n))
 may_go_on r t n (Waiting m) = has (marks t) m
 may_go_on r t n Free = true
 
+-- node n may go on
 abbrev pub is_enabled : Rules → List Entry → ℕ → Bool
 is_enabled r t n = may_go_on r t n (r.role t n)
 

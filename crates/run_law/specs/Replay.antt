@@ -38,6 +38,7 @@ made_by r t n (Picks count ks) = Pick n (least_left count ks)
 made_by r t n Tests = Test n (r.answer t n)
 made_by r t n Nothing = Note n
 
+-- the entry that node n makes next
 abbrev pub made : Rules → List Entry → ℕ → Entry
 made r t n = made_by r t n (offer (r.tree t) (plain t) n)
 
@@ -55,6 +56,7 @@ turn_by r t c true due = None
 turn_by r t c false true = Some (Edit (judged t) (r.verdict t (judged t)))
 turn_by r t c false false = option_map (made r t) (ready r t c)
 
+-- the entry of a turn of channel c, where it makes one
 abbrev pub turn : Rules → ℕ → List Entry → ℕ → Option Entry
 turn r limit t c = turn_by r t c (has_ended r limit t) (is_due r t)
 

@@ -12,6 +12,7 @@ use Rattle.run_law.specs.Fits.{plain, FitsEdit}
 use Rattle.run_law.specs.Legal.{Legal}
 use Rattle.nc_base.specs.declared.verdict.Verdict.{Verdict}
 
+-- all that the laws of legal runs ask of rules
 pub record IsSound (r : Rules) : Type 0 where
   -- each number stands once
   pub distinct : (t : List Entry) → Legal r t → AreDistinct (nodes (r.tree t))

@@ -30,6 +30,7 @@ abbrev pub opens_or : List ℕ → After → After
 opens_or [] k = k
 opens_or (n ∷ l) k = Opens (n ∷ l)
 
+-- a parallel has one element less, where it is counted
 abbrev pub joins_or : Bool → ℕ → After → After
 joins_or true n k = Joins n k
 joins_or false n k = k

@@ -21,6 +21,7 @@ abbrev pub cell_of_stage : Option ℕ → Cell
 cell_of_stage None = Over
 cell_of_stage (Some k) = Cutting (Some k)
 
+-- of a workingstep with these entries
 abbrev pub work_cell : ℕ → List Entry → Cell
 work_cell n [] = Cutting None
 work_cell n (x ∷ t) = cell_of_stage (stage n (x ∷ t))
@@ -30,10 +31,12 @@ abbrev pub stage_of : Cell → Option ℕ
 stage_of (Cutting o) = o
 stage_of _ = None
 
+-- of a leaf with these entries
 abbrev pub leaf_cell : List Entry → Cell
 leaf_cell [] = Going
 leaf_cell (x ∷ t) = Over
 
+-- the answer of an if, whose test comes first
 abbrev pub first_answer : ℕ → List Entry → Option Bool
 first_answer n [] = None
 first_answer n (x ∷ t) = test_of n x
@@ -44,6 +47,7 @@ last_answer [] = None
 last_answer (Tested b t ∷ []) = Some b
 last_answer (r ∷ s ∷ rest) = last_answer (s ∷ rest)
 
+-- what follows the test of the last turn
 abbrev pub last_body : List Turn → List Entry
 last_body [] = []
 last_body (Tested b t ∷ []) = t
@@ -61,26 +65,32 @@ abbrev mutual
   Shows c (If n a b) t = (c n ≡ AnsweredBy (first_answer n t)) × Shows c a (only (nodes a) t) × Shows c b (only (nodes b) t)
   Shows c (While n a) t = (c n ≡ AnsweredBy (last_answer (turns n t))) × Shows c a (last_body (turns n t))
 
+  -- the cells tell what t has at each node of these elements
   pub ShowsAll : (ℕ → Cell) → Execs → List Entry → Type 0
   ShowsAll c None_left t = Unit {0}
   ShowsAll c (Then e es) t = Shows c e (only (nodes e) t) × ShowsAll c es t
 
+-- the node, where it is not over
 abbrev pub if_going : Cell → ℕ → List ℕ
 if_going Over n = []
 if_going _ n = n ∷ []
 
+-- the picks of a cell
 abbrev pub picked : Cell → List ℕ
 picked (Picked ks) = ks
 picked _ = []
 
+-- the last answer of a cell
 abbrev pub answer : Cell → Option Bool
 answer (AnsweredBy o) = o
 answer _ = None
 
+-- n before its pick, and then what is said of the first pick
 abbrev pub after_picks : ℕ → List ℕ → (ℕ → List ℕ) → List ℕ
 after_picks n [] f = n ∷ []
 after_picks n (k ∷ ks) f = f k
 
+-- n before its test, and then what is said of a yes or of a no
 abbrev pub after_answer : ℕ → Option Bool → List ℕ → List ℕ → List ℕ
 after_answer n None yes_next no_next = n ∷ []
 after_answer n (Some true) yes_next no_next = yes_next
@@ -118,9 +128,11 @@ abbrev mutual
 abbrev pub AreKept : (ℕ → Cell) → (ℕ → Cell) → List ℕ → Type 0
 AreKept c c' ns = (m : ℕ) → has ns m ≡ true → c' m ≡ c m
 
+-- the cell of a workingstep after one more entry
 abbrev pub work_after : ℕ → Cell → Entry → Cell
 work_after n cell x = cell_of_stage (stage_step n (stage_of cell) x)
 
+-- the one where a test holds, and else the other
 abbrev pub WhereTrue : Bool → Type 0 → Type 0 → Type 0
 WhereTrue true P Q = P
 WhereTrue false P Q = Q
@@ -147,6 +159,7 @@ abbrev mutual
   Moves c (While n a) x c' =
       WhereSome (test_of n x) (λ ans. (c' n ≡ AnsweredBy (Some ans)) × Shows c' a []) ((c' n ≡ c n) × Moves c a x c')
 
+  -- the cells of the element that x is of move, and those of the others are kept
   pub MovesIn : (ℕ → Cell) → Execs → Entry → (ℕ → Cell) → Type 0
   MovesIn c None_left x c' = Unit {0}
   MovesIn c (Then e es) x c' =

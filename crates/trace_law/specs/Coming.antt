@@ -8,6 +8,7 @@ use Rattle.trace_law.specs.Cells.{Cell, if_going, picked, work_after}
 use Rattle.trace_law.specs.Frames.{is_shared, left}
 use Rattle.run_log.specs.declared.entry.Entry.{Entry}
 
+-- what is said of a value, or where there is none
 abbrev pub if_some : {A : Type 0} → Option A → (A → List ℕ) → List ℕ → List ℕ
 if_some None f l = l
 if_some (Some a) f l = f a

@@ -42,6 +42,7 @@ abbrev pub OfFirst : (ℕ → Type 0) → List ℕ → Type 0
 OfFirst said [] = Unit {0}
 OfFirst said (k ∷ ks) = said k
 
+-- what is said of the last
 abbrev pub OfLast : (ℕ → Type 0) → List ℕ → Type 0
 OfLast said [] = Unit {0}
 OfLast said (k ∷ []) = said k
@@ -70,10 +71,12 @@ abbrev mutual
   StandsInOrder c None_left t = Unit {0}
   StandsInOrder c (Then e es) t = Stands c e (only (nodes e) t) × WhereEmpty (next e (only (nodes e) t)) (StandsInOrder c es t)
 
+  -- of each element
   pub StandsEach : (ℕ → Cell) → Execs → List Entry → Type 0
   StandsEach c None_left t = Unit {0}
   StandsEach c (Then e es) t = Stands c e (only (nodes e) t) × StandsEach c es t
 
+  -- of element k
   pub StandsAt : (ℕ → Cell) → Execs → ℕ → List Entry → Type 0
   StandsAt c None_left k t = Unit {0}
   StandsAt c (Then e es) zero t = Stands c e t

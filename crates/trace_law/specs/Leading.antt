@@ -5,6 +5,7 @@ use Rattle.trace_law.specs.Next.{next}
 use Rattle.trace_law.specs.Cells.{Cell, Picked}
 use Rattle.trace_law.specs.Frames.{is_shared}
 
+-- the list is empty
 abbrev pub has_none : List ℕ → Bool
 has_none [] = true
 has_none (n ∷ l) = false
@@ -39,6 +40,7 @@ abbrev mutual
   NoPicks c (If n a b) = Unit {0}
   NoPicks c (While n a) = Unit {0}
 
+  -- the same of each of these elements
   pub NoPicksAll : (ℕ → Cell) → Execs → Type 0
   NoPicksAll c None_left = Unit {0}
   NoPicksAll c (Then e es) = NoPicks c e × NoPicksAll c es

@@ -35,6 +35,7 @@ stage_step n so_far (Block m k b) = if m == n then option_map (λ j. j + 1) so_f
 stage_step n so_far (End m) = if m == n then None else so_far
 stage_step n so_far x = so_far
 
+-- the same after these entries
 abbrev pub stage_from : ℕ → Option ℕ → List Entry → Option ℕ
 stage_from n so_far [] = so_far
 stage_from n so_far (x ∷ t) = stage_from n (stage_step n so_far x) t

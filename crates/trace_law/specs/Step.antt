@@ -11,6 +11,7 @@ use Rattle.run_log.specs.declared.entry.Entry.{Entry}
 abbrev pub IsNewPick : ℕ → ℕ → List ℕ → Entry → Type 0
 IsNewPick n count ks x = IsSomeAnd (pick_of n x) (λ k. (k < count) × (has ks k ≡ false))
 
+-- a test of n
 abbrev pub IsTest : ℕ → Entry → Type 0
 IsTest n x = IsSomeAnd (test_of n x) (λ b. ⊤)
 
@@ -20,14 +21,17 @@ AtLast said [] = ⊥
 AtLast said (k ∷ []) = said k
 AtLast said (k ∷ j ∷ ks) = AtLast said (j ∷ ks)
 
+-- before a pick the one, and behind it what is said of the index and the rest
 abbrev pub StepPicked : ℕ → Type 0 → (ℕ → List Entry → Type 0) → List Entry → Type 0
 StepPicked n first later [] = first
 StepPicked n first later (y ∷ t) = IsSomeAnd (pick_of n y) (λ k. later k t)
 
+-- before a test the one, and behind it what is said of the answer and the rest
 abbrev pub StepTested : ℕ → Type 0 → (Bool → List Entry → Type 0) → List Entry → Type 0
 StepTested n first later [] = first
 StepTested n first later (y ∷ t) = IsSomeAnd (test_of n y) (λ b. later b t)
 
+-- a test at the beginning and where the last body is whole, and else a step in that body
 abbrev pub StepLoop : Type 0 → (List Entry → Type 0) → (List Entry → Type 0) → List Turn → Type 0
 StepLoop test whole step [] = test
 StepLoop test whole step (Tested true t ∷ []) = (test × whole t) ⊎ step t
@@ -48,17 +52,20 @@ abbrev mutual
   Step (If n a b) t x = StepTested n (IsTest n x) (Answered (λ u. Step a u x) (λ u. Step b u x)) t
   Step (While n a) t x = StepLoop (IsTest n x) (λ u. Whole a u) (λ u. Step a u x) (turns n t)
 
+  -- x may follow in the first element that is not whole
   pub StepInOrder : Execs → List Entry → Entry → Type 0
   StepInOrder None_left t x = ⊥
   StepInOrder (Then e es) t x =
       ((is_of (nodes e) x ≡ true) × (joined es t ≡ []) × Step e (only (nodes e) t) x)
       ⊎ ((is_of (nodes e) x ≡ false) × Whole e (only (nodes e) t) × StepInOrder es t x)
 
+  -- x may follow in the element that it is of
   pub StepOfOne : Execs → List Entry → Entry → Type 0
   StepOfOne None_left t x = ⊥
   StepOfOne (Then e es) t x =
       ((is_of (nodes e) x ≡ true) × Step e (only (nodes e) t) x) ⊎ ((is_of (nodes e) x ≡ false) × StepOfOne es t x)
 
+  -- x may follow t in element k
   pub StepAt : Execs → ℕ → List Entry → Entry → Type 0
   StepAt None_left k t x = ⊥
   StepAt (Then e es) zero t x = Step e t x
@@ -89,6 +96,7 @@ abbrev mutual
   SomeContinues (Then e es) t x =
       ((is_of (nodes e) x ≡ true) × Continues e (only (nodes e) t) x) ⊎ ((is_of (nodes e) x ≡ false) × SomeContinues es t x)
 
+  -- x continues what its node has in element k
   pub ContinuesAt : Execs → ℕ → List Entry → Entry → Type 0
   ContinuesAt None_left k t x = ⊥
   ContinuesAt (Then e es) zero t x = Continues e t x

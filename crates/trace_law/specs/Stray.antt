@@ -28,6 +28,7 @@ is_offered (Picks count ks) n x = option_map_or (λ k. nat_lt k count && not (ha
 is_offered Tests n x = is_some (test_of n x)
 is_offered _ n x = false
 
+-- an edit never may, and an entry of node n may where the run can go on there and n does just that
 abbrev pub may_follow_by : Exec → List Entry → Entry → Option ℕ → Bool
 may_follow_by e t x None = false
 may_follow_by e t x (Some n) = has (next e t) n && is_offered (offer e t n) n x

@@ -181,3 +181,11 @@ fn variables_have_their_values(rt: HostRuntime) -> Result<(), Fail> {
     expect_variables(&rt, &vars, [5, -2, 0]);
     Ok(())
 }
+
+#[test]
+fn a_variable_is_set(rt: HostRuntime) -> Result<(), Fail> {
+    let mut vars = Vars::new(rt.alloc(), &[(9, 1), (7, 5)])?;
+    vars.set(7, 6);
+    expect_variables(&rt, &vars, [6, 1, 0]);
+    Ok(())
+}

@@ -29,7 +29,7 @@ fn exchange(rt: &impl Abort, alloc: Global, data: &str) -> Result<Exchange, Fail
     put(&mut text, HEAD)?;
     put(&mut text, data)?;
     put(&mut text, FOOT)?;
-    assert!(rt; text.len() <= MAX_TEXT, "the text is too long");
+    assert!(rt; text.len() <= MAX_TEXT as usize, "the text is too long");
     Ok(read(alloc, text.as_bytes())?)
 }
 

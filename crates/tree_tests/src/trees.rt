@@ -4,7 +4,7 @@ ghost use Rattle.std.specs.Prelude.{◌≡◌};
 
 use crate::projects::store;
 use entity_types::{Class, Entity, EntityList, Field, FieldList};
-use exec_tree::{Kind, NodeKind, Role, Tree, TreeErr, build, rebuild};
+use exec_tree::{Kind, Node, NodeKind, Role, Tree, TreeErr, build, rebuild};
 use nc_base::{NoMemory, Number, NumberList, Steps};
 use nc_expr::{Vars, test, value};
 use project_store::{Overlay, Store};
@@ -49,15 +49,13 @@ const NUMBERS: &[(Number, Option<u32>, u8, Role)] = &[
     (99, None, 0, Role::Free),
 ];
 
-fn expect_node(rt: &impl Abort, tree: &Tree, index: usize) {
-    let (number, channel, kind, elements) = NODES[index];
-    let node = &tree.nodes()[index];
+fn expect_node(rt: &impl Abort, node: &Node, row: &(Option<Number>, u8, Kind, &[Number])) {
+    let (number, channel, kind, elements) = *row;
     assert_eq!(rt;
         (node.number, node.channel, node.kind.kind()),
-        (number, channel, kind),
-        "place {index}"
+        (number, channel, kind)
     );
-    assert_eq!(rt; node.elements.as_slice(), elements, "place {index}");
+    assert_eq!(rt; node.elements.as_slice(), elements);
 }
 
 fn expect_number(rt: &impl Abort, tree: &Tree, row: &(Number, Option<u32>, u8, Role)) {
@@ -74,8 +72,8 @@ fn a_tree_has_its_nodes_in_preorder(rt: HostRuntime) -> Result<(), Fail> {
     let store = store(&rt, rt.alloc(), PROJECT)?;
     let tree = build(rt.alloc(), &store)?;
     assert_eq!(&rt; tree.nodes().len(), NODES.len());
-    for index in 0..NODES.len() {
-        expect_node(&rt, &tree, index);
+    for (node, row) in tree.nodes().iter().zip(NODES) {
+        expect_node(&rt, node, row);
     }
     Ok(())
 }
@@ -232,7 +230,7 @@ fn no_channel_comes_by_an_edit(rt: HostRuntime) -> Result<(), Fail> {
     let alloc = rt.alloc();
     let store = store(&rt, alloc, PROJECT)?;
     let old = build(alloc, &store)?;
-    let fault = after(alloc, &store, &old, workplan(alloc, 13, 8, 5)?)?.err();
+    let fault = after(alloc, &store, &old, workplan(alloc, 13, 8, 20)?)?.err();
     assert_eq!(&rt; fault, Some(TreeErr::Shared(8)));
     let fault = after(alloc, &store, &old, workplan(alloc, 13, 4, 22)?)?.err();
     assert_eq!(&rt; fault, Some(TreeErr::NewChannel(13)));
