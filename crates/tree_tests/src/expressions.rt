@@ -1,5 +1,6 @@
 //! Values and conditions, worked out by hand.
 
+use crate::expect::expect;
 use nc_base::NoMemory;
 use nc_expr::{Cond, Expr, Relation, Vars, test, value};
 use std::alloc::Global;
@@ -8,7 +9,7 @@ use std::process::Abort;
 use std::test::Fail;
 
 /// What is done with two numbers.
-#[derive(Clone, Copy, Debug)]
+#[derive(Clone, Copy)]
 enum Operation {
     Sum,
     Difference,
@@ -61,7 +62,7 @@ fn expect_value(
     let (a, operation, b, want) = *row;
     let e = expression(alloc, a, operation, b)?;
     let vars = Vars::new(alloc, &[])?;
-    assert_eq!(rt; value(&e, &vars), want, "{a} {operation:?} {b}");
+    expect(rt, value(&e, &vars), want);
     Ok(())
 }
 
@@ -85,7 +86,7 @@ const RELATIONS: &[(Relation, [bool; 3])] = &[
 
 fn expect_relation(rt: &impl Abort, vars: &Vars, relation: Relation, x: i64, want: bool) {
     let condition = Cond::Compares(relation, Expr::Number(x), Expr::Number(2));
-    assert_eq!(rt; test(&condition, vars), want, "{x} {relation:?} 2");
+    expect(rt, test(&condition, vars), want);
 }
 
 #[test]
@@ -99,61 +100,56 @@ fn values_compare(rt: HostRuntime) -> Result<(), Fail> {
     Ok(())
 }
 
-/// Two conditions, and whether AND, OR and XOR of them hold.
-const PAIRS: &[(bool, bool, [bool; 3])] = &[
-    (false, false, [false, false, false]),
-    (false, true, [false, true, true]),
-    (true, false, [false, true, true]),
-    (true, true, [true, true, false]),
+/// How two conditions are joined.
+#[derive(Clone, Copy)]
+enum Join {
+    And,
+    Or,
+    Xor,
+}
+
+/// Two conditions, how they are joined, and whether that holds.
+const JOINS: &[(bool, Join, bool, bool)] = &[
+    (false, Join::And, false, false),
+    (false, Join::And, true, false),
+    (true, Join::And, false, false),
+    (true, Join::And, true, true),
+    (false, Join::Or, false, false),
+    (false, Join::Or, true, true),
+    (true, Join::Or, false, true),
+    (true, Join::Or, true, true),
+    (false, Join::Xor, false, false),
+    (false, Join::Xor, true, true),
+    (true, Join::Xor, false, true),
+    (true, Join::Xor, true, false),
 ];
 
-fn both(alloc: Global, a: bool, b: bool) -> Result<(Box<Cond>, Box<Cond>), NoMemory> {
-    Ok((
-        Box::new(alloc, Cond::Constant(a))?,
-        Box::new(alloc, Cond::Constant(b))?,
-    ))
+fn joined(alloc: Global, a: bool, join: Join, b: bool) -> Result<Cond, NoMemory> {
+    let first = Box::new(alloc, Cond::Constant(a))?;
+    let second = Box::new(alloc, Cond::Constant(b))?;
+    Ok(match join {
+        Join::And => Cond::And(first, second),
+        Join::Or => Cond::Or(first, second),
+        Join::Xor => Cond::Xor(first, second),
+    })
 }
 
-fn expect_and(
+fn expect_joined(
     rt: &impl Abort,
     alloc: Global,
     vars: &Vars,
-    row: &(bool, bool, [bool; 3]),
+    row: &(bool, Join, bool, bool),
 ) -> Result<(), NoMemory> {
-    let (a, b) = both(alloc, row.0, row.1)?;
-    assert_eq!(rt; test(&Cond::And(a, b), vars), row.2[0]);
-    Ok(())
-}
-
-fn expect_or(
-    rt: &impl Abort,
-    alloc: Global,
-    vars: &Vars,
-    row: &(bool, bool, [bool; 3]),
-) -> Result<(), NoMemory> {
-    let (a, b) = both(alloc, row.0, row.1)?;
-    assert_eq!(rt; test(&Cond::Or(a, b), vars), row.2[1]);
-    Ok(())
-}
-
-fn expect_xor(
-    rt: &impl Abort,
-    alloc: Global,
-    vars: &Vars,
-    row: &(bool, bool, [bool; 3]),
-) -> Result<(), NoMemory> {
-    let (a, b) = both(alloc, row.0, row.1)?;
-    assert_eq!(rt; test(&Cond::Xor(a, b), vars), row.2[2]);
+    let condition = joined(alloc, row.0, row.1, row.2)?;
+    expect(rt, test(&condition, vars), row.3);
     Ok(())
 }
 
 #[test]
 fn conditions_join(rt: HostRuntime) -> Result<(), Fail> {
     let vars = Vars::new(rt.alloc(), &[])?;
-    for row in PAIRS {
-        expect_and(&rt, rt.alloc(), &vars, row)?;
-        expect_or(&rt, rt.alloc(), &vars, row)?;
-        expect_xor(&rt, rt.alloc(), &vars, row)?;
+    for row in JOINS {
+        expect_joined(&rt, rt.alloc(), &vars, row)?;
     }
     Ok(())
 }
@@ -163,15 +159,15 @@ fn a_condition_is_turned_round(rt: HostRuntime) -> Result<(), Fail> {
     let vars = Vars::new(rt.alloc(), &[])?;
     for answer in [false, true] {
         let condition = Cond::Not(Box::new(rt.alloc(), Cond::Constant(answer))?);
-        assert_eq!(&rt; test(&condition, &vars), !answer);
+        expect(&rt, test(&condition, &vars), !answer);
     }
     Ok(())
 }
 
 fn expect_variables(rt: &impl Abort, vars: &Vars, wants: [i64; 3]) {
-    assert_eq!(rt; value(&Expr::Variable(7), vars), wants[0]);
-    assert_eq!(rt; value(&Expr::Variable(9), vars), wants[1]);
-    assert_eq!(rt; value(&Expr::Variable(8), vars), wants[2]);
+    expect(rt, value(&Expr::Variable(7), vars), wants[0]);
+    expect(rt, value(&Expr::Variable(9), vars), wants[1]);
+    expect(rt, value(&Expr::Variable(8), vars), wants[2]);
 }
 
 /// The later of two pairs of one number stands; what isn't there counts as 0.

@@ -1,6 +1,6 @@
 //! Each limit of a tree and one past it, and which of two faults in one project comes first.
 
-use crate::projects::{expect_fault, put};
+use crate::projects::{expect_fault, put, put_with};
 use TreeErr::{ExprTooBig, Shared, TooDeep, TooManyChannels, TooManyNodes};
 use exec_tree::{MAX_EXPRESSION_NODES, MAX_TREE_NESTING, MAX_TREE_NODES, TreeErr};
 use nc_base::NoMemory;
@@ -8,196 +8,212 @@ use std::alloc::Global;
 use std::process::Abort;
 use std::test::Fail;
 
-/// So many workplans from #`from` on, each in the one before, and `inner` in the last.
-fn put_chain(
-    alloc: Global,
-    text: &mut String,
-    from: u32,
-    count: u32,
-    inner: &str,
-) -> Result<(), NoMemory> {
-    let mut n = from;
-    for _ in 1..count {
-        let next = n.wrapping_add(1);
-        put(text, &format!(in alloc; "#{n}=WORKPLAN('',(#{next}),$);")?)?;
-        n = next;
-    }
-    put(text, &format!(in alloc; "#{n}=WORKPLAN('',({inner}),$);")?)
-}
-
-/// So many numbers from #`from` on, with commas between.
-fn put_numbers(alloc: Global, text: &mut String, from: u32, count: u32) -> Result<(), NoMemory> {
-    for i in 0..count {
-        let comma = if i == 0 { "" } else { "," };
-        let n = from.wrapping_add(i);
-        put(text, &format!(in alloc; "{comma}#{n}")?)?;
-    }
-    Ok(())
-}
-
-/// Workplan #`number`, with so many notes from #`from` on.
-fn put_notes(
-    alloc: Global,
-    text: &mut String,
-    number: u32,
-    from: u32,
-    count: u32,
-) -> Result<(), NoMemory> {
-    put(text, &format!(in alloc; "#{number}=WORKPLAN('',(")?)?;
-    put_numbers(alloc, text, from, count)?;
-    put(text, "),$);")?;
+/// So many workplans from #`from` on, each in the one before. The last holds the executable of the number behind them, which isn't put.
+fn put_chain(text: &mut Vec<u8>, alloc: Global, from: u32, count: u32) -> Result<(), NoMemory> {
     for i in 0..count {
         let n = from.wrapping_add(i);
-        put(text, &format!(in alloc; "#{n}=DISPLAY_MESSAGE('');")?)?;
-    }
-    Ok(())
-}
-
-/// Workplan #`number`, with so many workplans from #`from` on, each with a channel of its own, from #`channel` on.
-fn put_channels(
-    alloc: Global,
-    text: &mut String,
-    number: u32,
-    from: u32,
-    channel: u32,
-    count: u32,
-) -> Result<(), NoMemory> {
-    put(text, &format!(in alloc; "#{number}=WORKPLAN('',(")?)?;
-    put_numbers(alloc, text, from, count)?;
-    put(text, "),$);")?;
-    for i in 0..count {
-        let n = from.wrapping_add(i);
-        let c = channel.wrapping_add(i);
-        put(
+        put_with(
             text,
-            &format!(in alloc; "#{n}=WORKPLAN('',(),#{c});#{c}=CHANNEL('');")?,
+            alloc,
+            b"#@=WORKPLAN('',(#%),$);",
+            n,
+            n.wrapping_add(1),
         )?;
     }
     Ok(())
 }
 
-/// Condition #`number`: an AND of so many times comparison #`comparison`, which has three nodes.
-fn put_conjunction(
+/// The pattern for each number from #`from` on, with a number that stands as far behind `other`.
+fn put_each(
+    text: &mut Vec<u8>,
     alloc: Global,
-    text: &mut String,
-    number: u32,
-    comparison: u32,
+    pattern: &[u8],
+    from: u32,
+    other: u32,
     count: u32,
 ) -> Result<(), NoMemory> {
-    put(text, &format!(in alloc; "#{number}=AND_EXPRESSION((")?)?;
     for i in 0..count {
-        let comma = if i == 0 { "" } else { "," };
-        put(text, &format!(in alloc; "{comma}#{comparison}")?)?;
+        put_with(
+            text,
+            alloc,
+            pattern,
+            from.wrapping_add(i),
+            other.wrapping_add(i),
+        )?;
+    }
+    Ok(())
+}
+
+/// Workplan #`number`, with so many elements from #`from` on and #`last` behind them.
+fn put_workplan(
+    text: &mut Vec<u8>,
+    alloc: Global,
+    number: u32,
+    from: u32,
+    count: u32,
+    last: u32,
+) -> Result<(), NoMemory> {
+    put_with(text, alloc, b"#@=WORKPLAN('',(", number, 0)?;
+    put_each(text, alloc, b"#@,", from, 0, count)?;
+    put_with(text, alloc, b"#@),$);", last, 0)
+}
+
+/// Workplan #`number`, with so many notes, at least one, that end with #900000.
+fn put_notes(text: &mut Vec<u8>, alloc: Global, number: u32, count: u32) -> Result<(), NoMemory> {
+    let before = count.saturating_sub(1);
+    put_workplan(text, alloc, number, 10_000, before, 900_000)?;
+    put_each(text, alloc, b"#@=DISPLAY_MESSAGE('');", 10_000, 0, before)?;
+    put(text, b"#900000=DISPLAY_MESSAGE('');")
+}
+
+/// Condition #390: an AND of so many times comparison #391, which has three nodes, and of the empty OR #392, which has one.
+fn put_conjunction(text: &mut Vec<u8>, alloc: Global, count: u32) -> Result<(), NoMemory> {
+    put(text, b"#390=AND_EXPRESSION((")?;
+    for _ in 0..count {
+        put(text, b"#391,")?;
     }
     put(
         text,
-        &format!(in alloc; "));#{comparison}=COMPARISON_LESS(1.,2.);")?,
+        b"#392));#391=COMPARISON_LESS(1.,2.);#392=OR_EXPRESSION(());",
     )
 }
 
+/// Workplan #200 with so many whiles, each with a condition of 999 nodes and a note: 1,001 nodes each. The last while is #499.
+fn put_whiles(text: &mut Vec<u8>, alloc: Global, count: u32) -> Result<(), NoMemory> {
+    let before = count.saturating_sub(1);
+    put_workplan(text, alloc, 200, 400, before, 499)?;
+    put_each(
+        text,
+        alloc,
+        b"#@=WHILE_STATEMENT('',#393,#%);#%=DISPLAY_MESSAGE('');",
+        400,
+        500,
+        before,
+    )?;
+    put(
+        text,
+        b"#499=WHILE_STATEMENT('',#393,#599);#599=DISPLAY_MESSAGE('');#393=NOT_EXPRESSION(#390);",
+    )?;
+    put_conjunction(text, alloc, 332)
+}
+
+fn expect_nesting(
+    rt: &impl Abort,
+    alloc: Global,
+    count: u32,
+    want: Option<TreeErr>,
+) -> Result<(), Fail> {
+    let mut text = Vec::new(alloc);
+    put_chain(&mut text, alloc, 2, count)?;
+    put_with(
+        &mut text,
+        alloc,
+        b"#@=DISPLAY_MESSAGE('');",
+        count.wrapping_add(2),
+        0,
+    )?;
+    expect_fault(rt, alloc, text.as_slice(), want)
+}
+
+/// A note in 63 workplans has nesting 64.
 #[test]
-fn workplans_lie_in_each_other_up_to_the_nesting(rt: HostRuntime) -> Result<(), Fail> {
-    let alloc = rt.alloc();
-    for (count, want) in [(64, None), (65, Some(TooDeep(66)))] {
-        let mut text = String::new(alloc);
-        put_chain(alloc, &mut text, 2, count, "")?;
-        expect_fault(&rt, alloc, &text, want)?;
-    }
+fn executables_lie_in_each_other_up_to_the_nesting(rt: HostRuntime) -> Result<(), Fail> {
     assert_eq!(&rt; MAX_TREE_NESTING, 64);
-    Ok(())
+    expect_nesting(&rt, rt.alloc(), 63, None)?;
+    expect_nesting(&rt, rt.alloc(), 64, Some(TooDeep(66)))
+}
+
+fn expect_list(
+    rt: &impl Abort,
+    alloc: Global,
+    count: u32,
+    want: Option<TreeErr>,
+) -> Result<(), Fail> {
+    let mut text = Vec::new(alloc);
+    put_notes(&mut text, alloc, 2, count)?;
+    expect_fault(rt, alloc, text.as_slice(), want)
 }
 
 /// With the main workplan, `MAX_TREE_NODES` and one more.
 #[test]
 fn a_list_has_as_many_nodes_as_a_tree(rt: HostRuntime) -> Result<(), Fail> {
-    let alloc = rt.alloc();
     assert_eq!(&rt; MAX_TREE_NODES, 65_535);
-    for (count, want) in [(65_534, None), (65_535, Some(TooManyNodes))] {
-        let mut text = String::new(alloc);
-        put_notes(alloc, &mut text, 2, 10, count)?;
-        expect_fault(&rt, alloc, &text, want)?;
-    }
-    Ok(())
+    expect_list(&rt, rt.alloc(), 65_534, None)?;
+    expect_list(&rt, rt.alloc(), 65_535, Some(TooManyNodes))
 }
 
-/// A while whose condition is a NOT or an AND of so many comparisons.
+/// A while whose condition is an AND of so many comparisons and an empty OR, with a NOT around it.
 fn expect_condition(
     rt: &impl Abort,
     alloc: Global,
     count: u32,
-    condition: &str,
+    condition: &[u8],
     want: Option<TreeErr>,
 ) -> Result<(), Fail> {
-    let mut text = String::new(alloc);
+    let mut text = Vec::new(alloc);
     put(
         &mut text,
-        &format!(in alloc;
-            "#2=WORKPLAN('M',(#3),$);#3=WHILE_STATEMENT('',{condition},#6);#6=DISPLAY_MESSAGE('');#7=NOT_EXPRESSION(#4);"
-        )?,
+        b"#2=WORKPLAN('M',(#3),$);#4=NOT_EXPRESSION(#5);#5=NOT_EXPRESSION(#390);#6=DISPLAY_MESSAGE('');",
     )?;
-    put_conjunction(alloc, &mut text, 4, 5, count)?;
-    expect_fault(rt, alloc, &text, want)
+    put(&mut text, condition)?;
+    put_conjunction(&mut text, alloc, count)?;
+    expect_fault(rt, alloc, text.as_slice(), want)
 }
 
-/// An AND of 333 comparisons has 1,000 nodes, with a NOT around it 1,001.
+/// An AND of 332 comparisons and an empty OR has 998 nodes, with two NOTs around it 1,000. With 333 it has 1,001.
 #[test]
 fn an_expression_has_so_many_nodes(rt: HostRuntime) -> Result<(), Fail> {
     assert_eq!(&rt; MAX_EXPRESSION_NODES, 1_000);
-    expect_condition(&rt, rt.alloc(), 333, "#4", None)?;
-    expect_condition(&rt, rt.alloc(), 333, "#7", Some(ExprTooBig(3)))?;
-    expect_condition(&rt, rt.alloc(), 334, "#4", Some(ExprTooBig(3)))
+    let whole: &[u8] = b"#3=WHILE_STATEMENT('',#4,#6);";
+    let inner: &[u8] = b"#3=WHILE_STATEMENT('',#390,#6);";
+    expect_condition(&rt, rt.alloc(), 332, whole, None)?;
+    expect_condition(&rt, rt.alloc(), 333, inner, Some(ExprTooBig(3)))
 }
 
-/// So many whiles, each with the same condition of 1,000 nodes and a note: 1,002 nodes each.
-fn put_whiles(alloc: Global, text: &mut String, number: u32, count: u32) -> Result<(), NoMemory> {
-    put(text, &format!(in alloc; "#{number}=WORKPLAN('',(")?)?;
-    put_numbers(alloc, text, 400, count)?;
-    put(text, "),$);")?;
-    for i in 0..count {
-        let n = u32::wrapping_add(400, i);
-        let body = u32::wrapping_add(500, i);
-        put(
-            text,
-            &format!(in alloc;
-                "#{n}=WHILE_STATEMENT('',#390,#{body});#{body}=DISPLAY_MESSAGE('');"
-            )?,
-        )?;
-    }
-    put_conjunction(alloc, text, 390, 391, 333)
+fn expect_whiles(
+    rt: &impl Abort,
+    alloc: Global,
+    notes: u32,
+    want: Option<TreeErr>,
+) -> Result<(), Fail> {
+    let mut text = Vec::new(alloc);
+    put(&mut text, b"#2=WORKPLAN('M',(#200,#4),$);")?;
+    put_whiles(&mut text, alloc, 65)?;
+    put_notes(&mut text, alloc, 4, notes)?;
+    expect_fault(rt, alloc, text.as_slice(), want)
 }
 
-/// The main workplan, 65 whiles of 1,002 nodes, 402 notes, and the two workplans that hold them are 65,535. One note more is too many.
+/// The main workplan, 65 whiles of 1,001 nodes, 467 notes, and the two workplans that hold them are 65,535. One note more is too many.
 #[test]
 fn nodes_of_expressions_count(rt: HostRuntime) -> Result<(), Fail> {
-    let alloc = rt.alloc();
-    for (notes, want) in [(402, None), (403, Some(TooManyNodes))] {
-        let mut text = String::new(alloc);
-        put(&mut text, "#2=WORKPLAN('M',(#3,#4),$);")?;
-        put_whiles(alloc, &mut text, 3, 65)?;
-        put_notes(alloc, &mut text, 4, 1_000, notes)?;
-        expect_fault(&rt, alloc, &text, want)?;
-    }
-    Ok(())
+    expect_whiles(&rt, rt.alloc(), 467, None)?;
+    expect_whiles(&rt, rt.alloc(), 468, Some(TooManyNodes))
+}
+
+fn expect_if(
+    rt: &impl Abort,
+    alloc: Global,
+    notes: u32,
+    want: Option<TreeErr>,
+) -> Result<(), Fail> {
+    let mut text = Vec::new(alloc);
+    put(
+        &mut text,
+        b"#2=WORKPLAN('M',(#3,#4),$);#3=IF_STATEMENT('',#9,#5,$);#5=DISPLAY_MESSAGE('');#9=AND_EXPRESSION(());",
+    )?;
+    put_notes(&mut text, alloc, 4, notes)?;
+    expect_fault(rt, alloc, text.as_slice(), want)
 }
 
 /// The main workplan, an if with its condition and a note for yes, a workplan and 65,530 notes are 65,535: the branch for no, which is left out,
 /// is no node.
 #[test]
 fn a_branch_that_is_left_out_is_no_node(rt: HostRuntime) -> Result<(), Fail> {
-    let alloc = rt.alloc();
-    for (notes, want) in [(65_530, None), (65_531, Some(TooManyNodes))] {
-        let mut text = String::new(alloc);
-        put(
-            &mut text,
-            "#2=WORKPLAN('M',(#3,#4),$);#3=IF_STATEMENT('',#9,#5,$);#5=DISPLAY_MESSAGE('');#9=AND_EXPRESSION(());",
-        )?;
-        put_notes(alloc, &mut text, 4, 1_000, notes)?;
-        expect_fault(&rt, alloc, &text, want)?;
-    }
-    Ok(())
+    expect_if(&rt, rt.alloc(), 65_530, None)?;
+    expect_if(&rt, rt.alloc(), 65_531, Some(TooManyNodes))
 }
 
-/// A subtree with a fault of its own: its workplan's number, and the fault.
+/// A subtree with a fault of its own.
 #[derive(Clone, Copy)]
 enum Faulty {
     Shared,
@@ -207,119 +223,128 @@ enum Faulty {
     TooManyChannels,
 }
 
-const FAULTS: &[Faulty] = &[
-    Faulty::Shared,
-    Faulty::TooDeep,
-    Faulty::TooManyNodes,
-    Faulty::ExprTooBig,
-    Faulty::TooManyChannels,
+/// Each with its workplan's number, and its fault.
+const FAULTS: &[(Faulty, u32, TreeErr)] = &[
+    (Faulty::Shared, 10, Shared(11)),
+    (Faulty::TooDeep, 100, TooDeep(163)),
+    (Faulty::TooManyNodes, 200, TooManyNodes),
+    (Faulty::ExprTooBig, 20, ExprTooBig(21)),
+    (Faulty::TooManyChannels, 30, TooManyChannels),
 ];
 
-fn workplan(faulty: Faulty) -> u32 {
-    match faulty {
-        Faulty::Shared => 10,
-        Faulty::TooDeep => 100,
-        Faulty::TooManyNodes => 200,
-        Faulty::ExprTooBig => 20,
-        Faulty::TooManyChannels => 30,
-    }
+/// #100 has nesting 2, #163 nesting 65.
+fn put_deep(text: &mut Vec<u8>, alloc: Global) -> Result<(), NoMemory> {
+    put_chain(text, alloc, 100, 63)?;
+    put(text, b"#163=DISPLAY_MESSAGE('');")
 }
 
-fn fault(faulty: Faulty) -> TreeErr {
-    match faulty {
-        Faulty::Shared => Shared(11),
-        Faulty::TooDeep => TooDeep(163),
-        Faulty::TooManyNodes => TooManyNodes,
-        Faulty::ExprTooBig => ExprTooBig(21),
-        Faulty::TooManyChannels => TooManyChannels,
-    }
+/// Workplan #30 with nine workplans, each with a channel of its own.
+fn put_channels(text: &mut Vec<u8>, alloc: Global) -> Result<(), NoMemory> {
+    put_workplan(text, alloc, 30, 31, 8, 39)?;
+    put_each(
+        text,
+        alloc,
+        b"#@=WORKPLAN('',(),#%);#%=CHANNEL('');",
+        31,
+        51,
+        9,
+    )
 }
 
-fn put_faulty(alloc: Global, text: &mut String, faulty: Faulty) -> Result<(), NoMemory> {
+fn put_faulty(text: &mut Vec<u8>, alloc: Global, faulty: Faulty) -> Result<(), NoMemory> {
     match faulty {
         Faulty::Shared => put(
             text,
-            "#10=WORKPLAN('',(#11,#11),$);#11=DISPLAY_MESSAGE('');",
+            b"#10=WORKPLAN('',(#11,#11),$);#11=DISPLAY_MESSAGE('');",
         ),
-        // #100 has nesting 2, and #163 nesting 65
-        Faulty::TooDeep => put_chain(alloc, text, 100, 64, ""),
-        Faulty::TooManyNodes => put_whiles(alloc, text, 200, 66),
+        Faulty::TooDeep => put_deep(text, alloc),
+        Faulty::TooManyNodes => put_whiles(text, alloc, 66),
         Faulty::ExprTooBig => put(
             text,
-            "#20=WORKPLAN('',(#21),$);#21=WHILE_STATEMENT('',#22,#23);#22=NOT_EXPRESSION(#22);#23=DISPLAY_MESSAGE('');",
+            b"#20=WORKPLAN('',(#21),$);#21=WHILE_STATEMENT('',#22,#23);#22=NOT_EXPRESSION(#22);#23=DISPLAY_MESSAGE('');",
         ),
-        Faulty::TooManyChannels => put_channels(alloc, text, 30, 31, 50, 9),
+        Faulty::TooManyChannels => put_channels(text, alloc),
     }
 }
 
-fn expect_first(rt: &impl Abort, alloc: Global, first: Faulty, second: Faulty) -> Result<(), Fail> {
-    let mut text = String::new(alloc);
-    let (one, other) = (workplan(first), workplan(second));
-    put(
+/// A main workplan with these two, and all five subtrees.
+fn expect_first(
+    rt: &impl Abort,
+    alloc: Global,
+    first: u32,
+    second: u32,
+    want: TreeErr,
+) -> Result<(), Fail> {
+    let mut text = Vec::new(alloc);
+    put_with(
         &mut text,
-        &format!(in alloc; "#2=WORKPLAN('M',(#{one},#{other}),$);")?,
+        alloc,
+        b"#2=WORKPLAN('M',(#@,#%),$);",
+        first,
+        second,
     )?;
-    put_faulty(alloc, &mut text, first)?;
-    if one != other {
-        put_faulty(alloc, &mut text, second)?;
+    for (faulty, _, _) in FAULTS {
+        put_faulty(&mut text, alloc, *faulty)?;
     }
-    expect_fault(rt, alloc, &text, Some(fault(first)))
+    expect_fault(rt, alloc, text.as_slice(), Some(want))
 }
 
 /// Each pair of faults in one project, in both orders: the walk comes to the first one first.
 #[test]
 fn of_two_faulty_subtrees_the_first_decides(rt: HostRuntime) -> Result<(), Fail> {
-    for first in FAULTS {
-        for second in FAULTS {
-            expect_first(&rt, rt.alloc(), *first, *second)?;
+    for (_, first, want) in FAULTS {
+        for (_, second, _) in FAULTS {
+            expect_first(&rt, rt.alloc(), *first, *second, *want)?;
         }
     }
     Ok(())
 }
 
-/// Two faults at one executable: it stands at nesting 65 below #100, and `before` comes before.
-fn expect_at_one(
-    rt: &impl Abort,
-    alloc: Global,
-    before: &str,
-    inner: &str,
-    more: &str,
-    want: TreeErr,
-) -> Result<(), Fail> {
-    let mut text = String::new(alloc);
-    put(
-        &mut text,
-        &format!(in alloc; "#2=WORKPLAN('M',({before}#100),$);")?,
-    )?;
-    put_chain(alloc, &mut text, 100, 63, inner)?;
-    put(&mut text, more)?;
-    expect_fault(rt, alloc, &text, Some(want))
-}
+/// Two faults at one executable: it stands in 64 workplans, and may stand before them too.
+const AT_ONE: &[(&[u8], TreeErr)] = &[
+    (
+        b"#2=WORKPLAN('M',(#163,#100),$);#163=DISPLAY_MESSAGE('');",
+        Shared(163),
+    ),
+    (
+        b"#2=WORKPLAN('M',(#100),$);#163=DISPLAY_MESSAGE('');",
+        TooDeep(163),
+    ),
+    (
+        b"#2=WORKPLAN('M',(#100),$);#163=WHILE_STATEMENT('',#22,#23);#22=NOT_EXPRESSION(#22);#23=DISPLAY_MESSAGE('');",
+        TooDeep(163),
+    ),
+];
 
-const BIG: &str =
-    "#21=WHILE_STATEMENT('',#22,#23);#22=NOT_EXPRESSION(#22);#23=DISPLAY_MESSAGE('');";
+fn expect_at_one(rt: &impl Abort, alloc: Global, data: &[u8], want: TreeErr) -> Result<(), Fail> {
+    let mut text = Vec::from_slice(alloc, data)?;
+    put_chain(&mut text, alloc, 100, 63)?;
+    expect_fault(rt, alloc, text.as_slice(), Some(want))
+}
 
 #[test]
 fn of_two_faults_at_one_executable_the_first_in_the_order_decides(
     rt: HostRuntime,
 ) -> Result<(), Fail> {
-    let alloc = rt.alloc();
-    let note = "#11=DISPLAY_MESSAGE('');";
-    expect_at_one(&rt, alloc, "#11,", "#11", note, Shared(11))?;
-    expect_at_one(&rt, alloc, "", "#11", note, TooDeep(11))?;
-    expect_at_one(&rt, alloc, "", "#21", BIG, TooDeep(21))
-}
-
-/// With 65 whiles before it, of 65,130 nodes, an expression that is too big counts 1,000 and makes too many; with 64 of them it doesn't.
-#[test]
-fn too_many_nodes_come_before_too_big_an_expression(rt: HostRuntime) -> Result<(), Fail> {
-    let alloc = rt.alloc();
-    for (count, want) in [(64, ExprTooBig(21)), (65, TooManyNodes)] {
-        let mut text = String::new(alloc);
-        put(&mut text, "#2=WORKPLAN('M',(#3,#21),$);")?;
-        put_whiles(alloc, &mut text, 3, count)?;
-        put(&mut text, BIG)?;
-        expect_fault(&rt, alloc, &text, Some(want))?;
+    for (data, want) in AT_ONE {
+        expect_at_one(&rt, rt.alloc(), data, *want)?;
     }
     Ok(())
+}
+
+fn expect_big_after(rt: &impl Abort, alloc: Global, count: u32, want: TreeErr) -> Result<(), Fail> {
+    let mut text = Vec::new(alloc);
+    put(
+        &mut text,
+        b"#2=WORKPLAN('M',(#200,#21),$);#21=WHILE_STATEMENT('',#22,#23);#22=NOT_EXPRESSION(#22);#23=DISPLAY_MESSAGE('');",
+    )?;
+    put_whiles(&mut text, alloc, count)?;
+    expect_fault(rt, alloc, text.as_slice(), Some(want))
+}
+
+/// With 65 whiles before it, of 65,065 nodes, an expression that is too big counts 1,000 and makes too many; with 64 of them it doesn't.
+#[test]
+fn too_many_nodes_come_before_too_big_an_expression(rt: HostRuntime) -> Result<(), Fail> {
+    expect_big_after(&rt, rt.alloc(), 64, ExprTooBig(21))?;
+    expect_big_after(&rt, rt.alloc(), 65, TooManyNodes)
 }

@@ -2,12 +2,12 @@
 
 ghost use Rattle.std.specs.Prelude.{◌≡◌};
 
-use crate::projects::store;
-use entity_types::{Class, Entity, EntityList, Field, FieldList};
+use crate::expect::expect;
+use crate::projects::{items, store};
 use exec_tree::{Kind, Node, NodeKind, Role, Tree, TreeErr, build, rebuild};
 use nc_base::{NoMemory, Number, NumberList, Steps};
 use nc_expr::{Vars, test, value};
-use project_store::{Overlay, Store};
+use project_store::Overlay;
 use std::alloc::Global;
 use std::marker::Brand;
 use std::process::Abort;
@@ -15,8 +15,8 @@ use std::sync::ledger::{Blank, Ledger};
 use std::test::Fail;
 
 /// An if without a branch for no, a workplan with a channel of its own, a parallel, and workingsteps in both.
-const PROJECT: &str =
-    "#2=WORKPLAN('M',(#3,#9),#20);#3=IF_STATEMENT('',#4,#6,$);#4=COMPARISON_LESS(#5,3.);#5=NC_VARIABLE('V',1.);#6=WORKPLAN('',(#14,#7,#8),#21);#7=ASSIGNMENT('',#5,#10);#8=WAIT_FOR_MARK('',#12);#9=PARALLEL('',(#15,#12,#13));#10=!NC_PRODUCT(#5,2.5);#12=SET_MARK('');#13=WORKPLAN('',(),$);#14=MACHINING_WORKINGSTEP('',$,#30,#31);#15=MACHINING_WORKINGSTEP('',$,#30,#31);#20=CHANNEL('');#21=CHANNEL('');#30=ROUND_HOLE();#31=DRILLING();";
+const PROJECT: &[u8] =
+    b"#2=WORKPLAN('M',(#3,#9),#20);#3=IF_STATEMENT('',#4,#6,$);#4=COMPARISON_LESS(#5,3.);#5=NC_VARIABLE('V',1.);#6=WORKPLAN('',(#14,#7,#8),#21);#7=ASSIGNMENT('',#5,#10);#8=WAIT_FOR_MARK('',#12);#9=PARALLEL('',(#15,#12,#13));#10=!NC_PRODUCT(#5,2.5);#12=SET_MARK('');#13=WORKPLAN('',(),$);#14=MACHINING_WORKINGSTEP('',$,#30,#31);#15=MACHINING_WORKINGSTEP('',$,#30,#31);#20=CHANNEL('');#21=CHANNEL('');#30=ROUND_HOLE();#31=DRILLING();";
 
 /// The nodes by place: number, channel, kind, and the places of the elements. Place 6 is the branch that is left out.
 const NODES: &[(Option<Number>, u8, Kind, &[Number])] = &[
@@ -50,27 +50,26 @@ const NUMBERS: &[(Number, Option<u32>, u8, Role)] = &[
 ];
 
 fn expect_node(rt: &impl Abort, node: &Node, row: &(Option<Number>, u8, Kind, &[Number])) {
-    let (number, channel, kind, elements) = *row;
-    assert_eq!(rt;
-        (node.number, node.channel, node.kind.kind()),
-        (number, channel, kind)
-    );
-    assert_eq!(rt; node.elements.as_slice(), elements);
+    expect(rt, node.number, row.0);
+    expect(rt, node.channel, row.1);
+    expect(rt, node.kind.kind(), row.2);
+    assert!(rt; node.elements.as_slice() == row.3);
 }
 
 fn expect_number(rt: &impl Abort, tree: &Tree, row: &(Number, Option<u32>, u8, Role)) {
-    let (n, place, channel, role) = *row;
-    assert_eq!(rt;
-        (tree.place_of(n), tree.channel(n), tree.role(n)),
-        (place, channel, role),
-        "#{n}"
-    );
+    expect(rt, tree.place_of(row.0), row.1);
+    expect(rt, tree.channel(row.0), row.2);
+    expect(rt, tree.role(row.0), row.3);
+}
+
+fn tree(rt: &impl Abort, alloc: Global, data: &[u8]) -> Result<Tree, Fail> {
+    let store = store(rt, alloc, data)?;
+    Ok(build(alloc, &store)?)
 }
 
 #[test]
 fn a_tree_has_its_nodes_in_preorder(rt: HostRuntime) -> Result<(), Fail> {
-    let store = store(&rt, rt.alloc(), PROJECT)?;
-    let tree = build(rt.alloc(), &store)?;
+    let tree = tree(&rt, rt.alloc(), PROJECT)?;
     assert_eq!(&rt; tree.nodes().len(), NODES.len());
     for (node, row) in tree.nodes().iter().zip(NODES) {
         expect_node(&rt, node, row);
@@ -80,18 +79,21 @@ fn a_tree_has_its_nodes_in_preorder(rt: HostRuntime) -> Result<(), Fail> {
 
 #[test]
 fn a_number_has_a_place_a_channel_and_a_role(rt: HostRuntime) -> Result<(), Fail> {
-    let store = store(&rt, rt.alloc(), PROJECT)?;
-    let tree = build(rt.alloc(), &store)?;
+    let tree = tree(&rt, rt.alloc(), PROJECT)?;
     for row in NUMBERS {
         expect_number(&rt, &tree, row);
     }
     Ok(())
 }
 
+fn expect_lists(rt: &impl Abort, tree: &Tree, steps: &[Number], channels: &[Number]) {
+    assert!(rt; tree.steps() == steps);
+    assert!(rt; tree.channel_table() == channels);
+}
+
 #[test]
 fn a_tree_has_its_workingsteps_and_channels_in_order(rt: HostRuntime) -> Result<(), Fail> {
-    let store = store(&rt, rt.alloc(), PROJECT)?;
-    let tree = build(rt.alloc(), &store)?;
+    let tree = tree(&rt, rt.alloc(), PROJECT)?;
     assert_eq!(&rt; tree.steps(), [14, 15].as_slice());
     assert_eq!(&rt; tree.channel_table(), [20, 21].as_slice());
     assert_eq!(&rt;
@@ -104,8 +106,8 @@ fn a_tree_has_its_workingsteps_and_channels_in_order(rt: HostRuntime) -> Result<
 /// There is a channel 0 where none is named.
 #[test]
 fn there_is_always_a_channel(rt: HostRuntime) -> Result<(), Fail> {
-    let store = store(&rt, rt.alloc(), "#2=WORKPLAN('M',(),$);")?;
-    assert_eq!(&rt; build(rt.alloc(), &store)?.channels(), 1);
+    let tree = tree(&rt, rt.alloc(), b"#2=WORKPLAN('M',(),$);")?;
+    expect(&rt, tree.channels(), 1);
     Ok(())
 }
 
@@ -139,15 +141,14 @@ fn expect_said(
 ) -> Result<(), NoMemory> {
     let (x, answer, assigned) = *row;
     let vars = Vars::new(alloc, &[(5, x)])?;
-    assert_eq!(rt; said(tree, 3, &vars), (Some(answer), None));
-    assert_eq!(rt; said(tree, 7, &vars), (None, Some((5, assigned))));
+    expect(rt, said(tree, 3, &vars), (Some(answer), None));
+    expect(rt, said(tree, 7, &vars), (None, Some((5, assigned))));
     Ok(())
 }
 
 #[test]
 fn nodes_say_conditions_and_values(rt: HostRuntime) -> Result<(), Fail> {
-    let store = store(&rt, rt.alloc(), PROJECT)?;
-    let tree = build(rt.alloc(), &store)?;
+    let tree = tree(&rt, rt.alloc(), PROJECT)?;
     for row in SAID {
         expect_said(&rt, rt.alloc(), &tree, row)?;
     }
@@ -171,68 +172,55 @@ fn looked_at<L: Ledger>(alloc: Global, blank: Blank, tree: &Tree) -> Result<Numb
 
 #[test]
 fn a_look_at_a_place_finds_its_node(rt: HostRuntime) -> Result<(), Fail> {
-    let alloc = rt.alloc();
-    let store = store(&rt, alloc, PROJECT)?;
-    let tree = build(alloc, &store)?;
-    let numbers = looked_at::<Brand>(alloc, Blank::new(1), &tree)?;
-    assert_eq!(&rt;
-        numbers.as_slice(),
-        [2, 3, 6, 14, 7, 8, 0, 9, 15, 12, 13].as_slice()
-    );
+    let tree = tree(&rt, rt.alloc(), PROJECT)?;
+    let numbers = looked_at::<Brand>(rt.alloc(), Blank::new(1), &tree)?;
+    assert!(&rt; numbers.as_slice() == [2, 3, 6, 14, 7, 8, 0, 9, 15, 12, 13].as_slice());
     Ok(())
 }
 
-fn workplan(
-    alloc: Global,
-    number: Number,
-    element: Number,
-    channel: Number,
-) -> Result<Entity, NoMemory> {
-    let mut elements = NumberList::new(alloc);
-    elements.push(element)?;
-    let mut fields = FieldList::new(alloc);
-    fields.push(Field::Refs(elements))?;
-    fields.push(Field::Ref(channel))?;
-    Ok(Entity {
-        number,
-        class: Class::Workplan,
-        fields,
-    })
+/// The tree of the project after an edit, with the channel numbers of the tree before.
+fn after(rt: &impl Abort, alloc: Global, edit: &[u8]) -> Result<Result<Tree, TreeErr>, Fail> {
+    let store = store(rt, alloc, PROJECT)?;
+    let old = build(alloc, &store)?;
+    let items = items(rt, alloc, edit)?;
+    Ok(rebuild(alloc, &Overlay::new(&store, &items), &old))
 }
 
-/// The tree after an edit that puts this workplan, or its fault.
-fn after(
-    alloc: Global,
-    store: &Store,
-    old: &Tree,
-    item: Entity,
-) -> Result<Result<Tree, TreeErr>, NoMemory> {
-    let mut items = EntityList::new(alloc);
-    items.push(item)?;
-    Ok(rebuild(alloc, &Overlay::new(store, &items), old))
-}
-
-/// The main workplan is put with the other channel: the workplan below it keeps channel 1, and the channels keep their numbers.
+/// The main workplan is put with the other channel, and without the if: the channels keep their numbers.
 #[test]
 fn channels_keep_their_numbers(rt: HostRuntime) -> Result<(), Fail> {
-    let alloc = rt.alloc();
-    let store = store(&rt, alloc, PROJECT)?;
-    let old = build(alloc, &store)?;
-    let tree = after(alloc, &store, &old, workplan(alloc, 2, 9, 21)?)??;
-    assert_eq!(&rt; tree.channel_table(), [20, 21].as_slice());
-    assert_eq!(&rt; (tree.channel(2), tree.channel(15)), (1, 1));
-    assert_eq!(&rt; tree.steps(), [15].as_slice());
+    let tree = after(&rt, rt.alloc(), b"#2=WORKPLAN('M',(#9),#21);")??;
+    expect_lists(&rt, &tree, &[15], &[20, 21]);
+    expect(&rt, tree.channel(2), 1);
+    expect(&rt, tree.channel(15), 1);
+    Ok(())
+}
+
+/// What an edit puts, and the fault of the tree after it.
+const EDITS: &[(&[u8], Option<TreeErr>)] = &[
+    (b"#13=WORKPLAN('',(#16),#21);#16=SET_MARK('');", None),
+    (b"#13=WORKPLAN('',(#8),#20);", Some(TreeErr::Shared(8))),
+    (
+        b"#13=WORKPLAN('',(#8),#22);#22=CHANNEL('');",
+        Some(TreeErr::NewChannel(13)),
+    ),
+];
+
+fn expect_after(
+    rt: &impl Abort,
+    alloc: Global,
+    edit: &[u8],
+    want: Option<TreeErr>,
+) -> Result<(), Fail> {
+    let fault = after(rt, alloc, edit)?.err();
+    expect(rt, fault, want);
     Ok(())
 }
 
 #[test]
 fn no_channel_comes_by_an_edit(rt: HostRuntime) -> Result<(), Fail> {
-    let alloc = rt.alloc();
-    let store = store(&rt, alloc, PROJECT)?;
-    let old = build(alloc, &store)?;
-    let fault = after(alloc, &store, &old, workplan(alloc, 13, 8, 20)?)?.err();
-    assert_eq!(&rt; fault, Some(TreeErr::Shared(8)));
-    let fault = after(alloc, &store, &old, workplan(alloc, 13, 4, 22)?)?.err();
-    assert_eq!(&rt; fault, Some(TreeErr::NewChannel(13)));
+    for (edit, want) in EDITS {
+        expect_after(&rt, rt.alloc(), edit, *want)?;
+    }
     Ok(())
 }
