@@ -1,9 +1,12 @@
 """Worked examples for the second implementation, worked out by hand: bench/compare --self-test.
 
-Beside those typed here, every command with its output in README.md, docs/FORMATS.md and examples/README.md is compared.
+Beside those typed here and in worked_trees.py, every command with its output in README.md, docs/FORMATS.md and examples/README.md is compared, and so
+are the rows of docs/FORMATS.md that change an instance or two of the example of a hole.
 """
 
 import re
+import subprocess
+import sys
 from pathlib import Path
 
 import oracle
@@ -239,6 +242,8 @@ def cases():
     yield "20,000 blocks", len(ask(PATH, changed(POCKET, edge))[1].splitlines()), 20_000
     yield "the table of docs/FORMATS.md", table_of_formats(), [line for line in oracle.TABLE.strip().splitlines()]
     yield from shown_cases()
+    yield from outlines()
+    yield from rows_of_formats()
 
 
 def table_of_formats():
@@ -262,6 +267,20 @@ def shown_cases():
                 told = "".join(line for line in output.splitlines(True) if not line.startswith("stepnc: "))  # those go to standard error
                 if output:
                     yield f"{page}: {command}", text, told
+
+
+def outlines():
+    """The outlines that examples/README.md shows."""
+    for block in re.findall(r"```\n(.*?)```", (ROOT / "examples" / "README.md").read_text(), re.S):
+        for file, output in re.findall(r"^\$ examples/tree (\S+)\n((?:(?!\$ ).*\n)*)", block, re.M):
+            done = subprocess.run([sys.executable, ROOT / "examples" / "tree", ROOT / file], stdout=subprocess.PIPE, env={"PYTHONIOENCODING": "utf-8"})
+            yield f"tree {file}", done.stdout.decode(), output
+
+
+def rows_of_formats():
+    """The rows of docs/FORMATS.md that change the example of a hole and give the refusal."""
+    for instances, said in re.findall(r"^\| ((?:`#\d+=[^`]*;` ?)+)\| `refused ([^`]+)` \|$", oracle.FORMATS.read_text(), re.M):
+        yield instances, ask(REPLAY, changed(HOLE, re.findall("`([^`]*)`", instances))), refusal(said)
 
 
 def differences():
