@@ -19,6 +19,10 @@ MOST_VALUE = 10**15
 MOST_IN_DEFINITION = 10**8
 MOST_BLOCKS = 20_000
 MOST_ENTRIES = 2_000_000
+MOST_NESTING = 64
+MOST_NODES = 65_535
+MOST_EXPRESSION = 1_000
+MOST_CHANNELS = 8
 
 DONE, RUN_LIMIT, BAD_WORDS, PROJECT_REFUSED, READ_FAULT = 0, 2, 3, 4, 7
 
@@ -405,6 +409,7 @@ TABLE = """
 """
 OPAQUE = 61
 PROJECT, WORKPLAN, WORKINGSTEP = 1, 2, 11
+IF, WHILE, ASSIGNMENT, VARIABLE, CONSTANT = 6, 7, 8, 14, 15
 HOLE, FACE, POCKET = 29, 30, 31
 RECTANGLE, CONTOUR, POLYLINE = 34, 35, 36
 TARGETS = {
@@ -534,13 +539,87 @@ def main_workplan(store):
     return store[projects[0].fields[2][1]]
 
 
-def steps_of(store, workplan):
-    """The numbers of the workingsteps that run, in order."""
-    elements = workplan.fields[2][1]
-    is_plain = all(store[number].code == WORKINGSTEP for number in elements)
-    if workplan.fields[3] != ("$",) or not is_plain or len(set(elements)) < len(elements):
-        raise Refused("NotBuilt")
-    return elements
+# ---- The tree of executables. ----
+
+
+def parts_of(executable):
+    """The numbers of the executables directly in one, in order; a branch that is `$` is none."""
+    fields = executable.fields
+    if executable.code in (IF, WHILE):
+        return [fields[position][1] for position in (3, 4) if position in fields and fields[position] != ("$",)]
+    return fields[2][1] if executable.code <= 5 else []
+
+
+def expression_of(executable):
+    """The field of the condition or value that an executable works out, or None."""
+    return executable.fields[3 if executable.code == ASSIGNMENT else 2] if executable.code in (IF, WHILE, ASSIGNMENT) else None
+
+
+def channel_of(executable):
+    """The channel that a workplan names, or None."""
+    field = executable.fields[3] if executable.code == WORKPLAN else ("$",)
+    return None if field == ("$",) else field[1]
+
+
+def operands_of(entity):
+    """The fields of an operator's operands; a variable or a constant has none."""
+    if entity.code in (VARIABLE, CONSTANT):
+        return []
+    return [operand for field in entity.fields.values() for operand in ([("ref", n) for n in field[1]] if field[0] == "refs" else [field])]
+
+
+def expression_nodes(store, field):
+    """How many nodes an expression has with each reference written out, or one more than it may have where it has too many."""
+    counted, ahead = 0, [field]
+    while ahead:
+        if counted + len(ahead) > MOST_EXPRESSION:  # each of those ahead is one at least, so this ends where they lead back too
+            return MOST_EXPRESSION + 1
+        kind, value = ahead.pop()
+        counted += 1
+        if kind == "ref":
+            ahead += operands_of(store[value])
+    return counted
+
+
+class Tree:
+    """The executables that a main workplan leads to, in preorder; raises the fault of the first that has one."""
+
+    def __init__(self, store, main):
+        self.store, self.main = store, main
+        self.numbers, self.weight, self.channels = {}, 0, {}
+        ahead = [(main.number, 1)]
+        while ahead:
+            number, nesting = ahead.pop()
+            executable = store[number]
+            self.look(executable, nesting)
+            self.numbers[number] = executable.code
+            ahead += [(part, nesting + 1) for part in reversed(parts_of(executable))]
+
+    def look(self, executable, nesting):
+        """Counts an executable, after a look at its faults in their order."""
+        number, expression, channel = executable.number, expression_of(executable), channel_of(executable)
+        if number in self.numbers:
+            raise Refused("Shared", number)
+        if nesting > MOST_NESTING:
+            raise Refused("TreeTooDeep", number)
+        nodes = expression_nodes(self.store, expression) if expression else 0
+        self.weight += 1 + min(nodes, MOST_EXPRESSION)
+        if self.weight > MOST_NODES:
+            raise Refused("TooManyNodes")
+        if nodes > MOST_EXPRESSION:
+            raise Refused("ExprTooBig", number)
+        if channel is not None:
+            self.channels.setdefault(channel, len(self.channels))
+            if len(self.channels) > MOST_CHANNELS:
+                raise Refused("TooManyChannels")
+
+    def steps(self):
+        """The numbers of the workingsteps, in preorder."""
+        return [number for number, code in self.numbers.items() if code == WORKINGSTEP]
+
+    def is_built(self):
+        """Whether the main workplan has nothing in it but workingsteps, so that `replay` runs it today."""
+        return all(self.store[number].code == WORKINGSTEP for number in parts_of(self.main))
 
 
 # ---- The definition of a workingstep. ----
@@ -869,20 +948,20 @@ def path(found):
 # ---- Commands. ----
 
 
-def defined_steps(data):
-    """The workingsteps of a project in order, each with what its path needs; raises the refusal of the file."""
+def accepted(data):
+    """The tree of a project, and its workingsteps in preorder, each with what its path needs; raises the refusal of the file."""
     if len(data) > MOST_BYTES:
         raise Refused("TooLong")
     instances = Grammar(data).file()
     store = {number: entity_of(number, instance) for number, instance in instances.items()}
-    steps = steps_of(store, main_workplan(store))
+    tree = Tree(store, main_workplan(store))
     defined = {}
-    for number in sorted(steps):
+    for number in sorted(tree.steps()):
         try:
             defined[number] = definition(store, number)
         except Fault as fault:
             raise Refused("Definition", number, *fault.said) from None
-    return {number: defined[number] for number in steps}
+    return tree, {number: defined[number] for number in tree.steps()}
 
 
 def run(steps, limit):
@@ -956,8 +1035,10 @@ def answer(words, read):
     if data is None:
         return READ_FAULT, b""
     try:
-        steps = defined_steps(data)
+        tree, steps = accepted(data)
         if words[0] == "replay":
+            if not tree.is_built():
+                raise Refused("NotBuilt")
             status, text = run(steps, int(words[4]))
             return status, text.encode()
         if int(words[2]) not in steps:

@@ -1,4 +1,4 @@
-"""Random projects of drilled holes, faces and pockets, with random faults and a random layout, for bench/compare.
+"""Random projects of drilled holes, faces and pockets in trees of executables, with random faults and a random layout, for bench/compare.
 
 A project is a dict of instances by number. A parameter is a text that is written as it stands, a Ref, a list, or a Typed. All that
 is random comes from one random.Random, so a case is the same for the same seed.
@@ -6,7 +6,8 @@ is random comes from one random.Random, so a case is the same for the same seed.
 
 import random
 
-from oracle import CLASS_OF, KEYWORDS, MOST_BYTES, MOST_INSTANCES, OPAQUE, TARGETS, USED, WORKINGSTEP
+from oracle import (ASSIGNMENT, CLASS_OF, IF, KEYWORDS, MOST_BYTES, MOST_CHANNELS, MOST_EXPRESSION, MOST_INSTANCES, MOST_NESTING, MOST_NODES, OPAQUE,
+                    TARGETS, USED, WHILE, WORKINGSTEP, WORKPLAN)
 
 
 class Ref:
@@ -293,6 +294,72 @@ class Project:
         security = self.kept("security", lambda: self.plane(self.value(0, 60_000)))
         return self.add("MACHINING_WORKINGSTEP", {2: security, 3: feature, 4: operation})
 
+    # Trees of executables.
+
+    def variable(self):
+        return self.kept("variable", lambda: self.add("NC_VARIABLE", {2: self.r.choice(["$", self.num(self.value(-9_000, 9_000))])}))
+
+    def value_of(self, deep):
+        """A value: a number, a constant, a variable, or a sum, difference or product; some of them are used in several places."""
+        r = self.r
+        if deep == 0 or r.random() < 0.4:
+            return r.choice([lambda: self.num(self.value(-9_000, 9_000)), self.variable, lambda: self.add("NC_CONSTANT", {2: self.num(r.randint(-9, 9))})])()
+        make = lambda: self.add(r.choice(KEYWORDS[r.randint(26, 28)]), {1: self.value_of(deep - 1), 2: self.value_of(deep - 1)})
+        return self.kept("value", make) if r.random() < 0.3 else make()
+
+    def condition_of(self, deep):
+        r = self.r
+        code = r.randint(16, 21) if deep == 0 or r.random() < 0.4 else r.randint(22, 25)
+        if code <= 21:
+            make = lambda: self.add(KEYWORDS[code][0], {1: self.value_of(deep), 2: self.value_of(deep)})
+        elif code <= 23:
+            make = lambda: self.add(KEYWORDS[code][0], {1: [self.condition_of(deep - 1) for _ in range(r.choice([0, 1, 2, 3]))]})
+        else:
+            make = lambda: self.add(KEYWORDS[code][0], {position: self.condition_of(deep - 1) for position in ((1, 2) if code == 24 else (1,))})
+        return self.kept("condition", make) if r.random() < 0.3 else make()
+
+    def channel(self):
+        return self.add("CHANNEL", {}) if self.r.random() < 0.2 else self.kept("channel", lambda: self.add("CHANNEL", {}))
+
+    def leaf(self):
+        """An executable without others in it, other than a workingstep."""
+        r = self.r
+        code = r.choice([8, 9, 10, 12])
+        if code == ASSIGNMENT:
+            return self.add("ASSIGNMENT", {2: self.variable(), 3: self.value_of(r.randrange(3))})
+        if code == 10:  # for a mark that stands in the tree, or in none
+            marks = self.numbers_of({9})
+            return self.add("WAIT_FOR_MARK", {2: Ref(r.choice(marks)) if marks and r.random() < 0.7 else self.add("SET_MARK", {})})
+        return self.add(r.choice(KEYWORDS[code]), {})
+
+    def around(self, parts):
+        """An executable with one or two of these in it where it is an if, one where it is a while, else all of them; and those left over."""
+        r = self.r
+        code = r.choice([2, 2, 3, 4, 5, 6, 7])
+        if code == IF:
+            condition = self.condition_of(r.randrange(3))
+            otherwise = parts[1] if len(parts) > 1 else "$"
+            return self.add("IF_STATEMENT", {2: condition, 3: parts[0], 4: otherwise}), parts[2:]
+        if code == WHILE:
+            return self.add("WHILE_STATEMENT", {2: self.condition_of(r.randrange(3)), 3: parts[0]}), parts[1:]
+        if code == WORKPLAN:
+            return self.add("WORKPLAN", {2: parts, 3: self.channel() if r.random() < 0.4 else "$"}), []
+        return self.add(KEYWORDS[code][0], {2: parts}), []
+
+    def nested(self, elements):
+        """The elements of a main workplan that has these, and more, at any depth."""
+        r = self.r
+        elements = elements + [self.leaf() for _ in range(r.choice([0, 1, 2, 4]))]
+        r.shuffle(elements)
+        for _ in range(r.choice([1, 2, 3, 5, 8])):
+            if not elements:
+                return [self.add("WORKPLAN", {2: [], 3: "$"})]
+            begin = r.randrange(len(elements))
+            end = begin + r.randint(1, 3)
+            executable, rest = self.around(elements[begin:end])
+            elements[begin:end] = [executable] + rest
+        return elements
+
     # Instances that nobody runs.
 
     def numbers_of(self, codes):
@@ -307,7 +374,7 @@ class Project:
         simple = {"Workplan": 2, "Executable": 12, "Mark": 9, "Channel": 13, "Variable": 14, "Value": 15, "Condition": 22, "Feature": 29,
                   "Operation": 41, None: 13}[target]
         if simple in (2, 22):
-            return self.add(KEYWORDS[simple][0], {2: [], 1: []})
+            return self.add(KEYWORDS[simple][0], {1: [], 2: [], 3: "$"})
         return self.extra(simple)
 
     def field(self, used):
@@ -343,7 +410,9 @@ def random_project(r):
     project = Project(r)
     steps = [project.step() for _ in range(r.choice([0, 1, 1, 1, 2, 2, 3, 4, 6]))]
     project.steps = [step.number for step in steps]
-    main = project.add("WORKPLAN", {2: steps, 3: "$"})
+    project.is_nested = r.random() < 0.5
+    elements = project.nested(steps) if project.is_nested else steps
+    main = project.add("WORKPLAN", {2: elements, 3: project.channel() if r.random() < 0.1 else "$"})
     project.main = project.instances[main.number]
     project.head = project.add("PROJECT", {2: main}).number
     if r.random() < 0.4:
@@ -445,21 +514,215 @@ def wrong_target(project):
         instance.put(used.position, now + [other] if isinstance(now, list) else other)
 
 
-def not_built(project):
-    """NotBuilt"""
+# ---- Faults of the tree, each at its limit or past it. ----
+
+
+def parts_in(instance):
+    """The parameters of an instance that are executables in it."""
+    if instance.code in (IF, WHILE):
+        return [part for part in (instance.get(position) for position in ((3, 4) if instance.code == IF else (3,))) if isinstance(part, Ref)]
+    elements = instance.get(2) if 2 <= instance.code <= 5 else []
+    return [part for part in elements if isinstance(part, Ref)] if isinstance(elements, list) else []
+
+
+def in_tree(project):
+    """The numbers of the executables in the tree, each once, in preorder."""
+    found, ahead = {}, [number for number, instance in project.instances.items() if instance is project.main]
+    while ahead:
+        number = ahead.pop()
+        if number in project.instances and number not in found:
+            found[number] = project.instances[number]
+            ahead += [part.number for part in reversed(parts_in(found[number]))]
+    return found
+
+
+def put_in(project, *executables):
+    """Puts executables into one of the tree's lists, or in place of a branch or a body."""
+    r = project.r
+    holders = [instance for instance in in_tree(project).values() if instance.code in (2, 3, 4, 5) and isinstance(instance.get(2), list)]
+    branching = [instance for instance in in_tree(project).values() if instance.code in (IF, WHILE)]
+    if branching and len(executables) == 1 and r.random() < 0.3:
+        instance = r.choice(branching)
+        instance.put(r.choice([3, 4]) if instance.code == IF else 3, executables[0])
+    elif holders:
+        elements = r.choice(holders if r.random() < 0.6 else [project.main] if isinstance(project.main.get(2), list) else holders).get(2)
+        at = r.randint(0, len(elements))
+        elements[at:at] = executables
+
+
+def another_kind(project):
+    """NotBuilt of replay"""
+    put_in(project, project.leaf())
+
+
+def shared(project):
+    """Shared, or a cycle of executables"""
+    known = list(in_tree(project))
+    if known:
+        put_in(project, Ref(project.r.choice(known)))
+
+
+def wrapped_in(project, executable, levels):
+    """An executable in so many others."""
+    r = project.r
+    condition = project.condition_of(1)
+    for _ in range(levels):
+        code = r.choice([2, 3, 4, 5, 6, 7])
+        parameters = {IF: {2: condition, 3: executable, 4: "$"}, WHILE: {2: condition, 3: executable}}.get(code, {2: [executable], 3: "$"})
+        executable = project.add(KEYWORDS[code][0], parameters)
+    return executable
+
+
+def too_deep_tree(project):
+    """TreeTooDeep, or as deep as a tree may be"""
+    r = project.r
+    last = r.choice([project.leaf, lambda: project.add("WORKPLAN", {2: [], 3: "$"}), lambda: faulty_node(project)])()
+    put_in(project, wrapped_in(project, last, MOST_NESTING + r.choice([-4, -3, -3, -2, -2, -2, -1, -1, 0, 5])))
+
+
+def faulty_node(project):
+    """An executable that has a fault wherever it stands, or none of its own."""
     r = project.r
     way = r.randrange(4)
-    elements = project.main.get(2)
-    if not isinstance(elements, list):
-        return
     if way == 0:
-        project.main.put(3, project.any_of("Channel"))
-    elif way == 1 and elements:
-        elements.append(r.choice(elements))
-    elif way == 2:
-        elements.append(project.any_of("Executable"))
+        return Ref(r.choice(list(in_tree(project)) or [1]))
+    if way == 1:
+        return project.add("WORKPLAN", {2: [], 3: project.add("CHANNEL", {})})
+    condition = project.add("NOT_EXPRESSION", {1: "$"})
+    project.instances[condition.number].put(1, condition)
+    return project.add("WHILE_STATEMENT", {2: condition, 3: project.leaf()})
+
+
+def value_of_size(project, size):
+    """A value of so many nodes, an odd number, of few instances."""
+    r = project.r
+    if size <= 1:
+        return r.choice([project.num(1_000), project.variable()])
+    half = (size - 1) // 2 | 1
+    first = value_of_size(project, half)
+    second = first if size - 1 - half == half else value_of_size(project, size - 1 - half)
+    return project.add(r.choice(KEYWORDS[r.randint(26, 28)]), {1: first, 2: second})
+
+
+def condition_of_size(project, size):
+    """A condition of so many nodes."""
+    r = project.r
+    if size == 1:
+        return project.add(r.choice(["AND_EXPRESSION", "OR_EXPRESSION"]), {1: []})
+    way = r.randrange(4)
+    if way == 0 and size % 2 == 1:
+        return project.add(KEYWORDS[r.randint(16, 21)][0], {1: value_of_size(project, (size - 1) // 2 | 1), 2: value_of_size(project, size - 1 - ((size - 1) // 2 | 1))})
+    if way == 1 and size > 2:
+        half = (size - 1) // 2
+        return project.add("XOR_EXPRESSION", {1: condition_of_size(project, half), 2: condition_of_size(project, size - 1 - half)})
+    if way == 2:
+        times = r.choice([1, 2, 7, size - 1])
+        each = (size - 1) // times
+        if each:
+            item = condition_of_size(project, each)
+            rest = size - 1 - each * times
+            return project.add(r.choice(["AND_EXPRESSION", "OR_EXPRESSION"]), {1: [item] * times + ([condition_of_size(project, rest)] if rest else [])})
+    return project.add("NOT_EXPRESSION", {1: condition_of_size(project, size - 1)})
+
+
+def endless(project):
+    """A condition that leads back to itself, or shares so much that it could as well."""
+    r = project.r
+    if r.random() < 0.4:  # doubled so many times
+        value = project.num(1_000)
+        for _ in range(r.choice([8, 9, 10, 30, 60])):
+            value = project.add("!NC_SUM", {1: value, 2: value})
+        return project.add("COMPARISON_LESS", {1: value, 2: project.value_of(1)})
+    first = project.add("NOT_EXPRESSION", {1: "$"})
+    last = first
+    for _ in range(r.randrange(4)):
+        last = project.add(*r.choice([("NOT_EXPRESSION", {1: last}), ("OR_EXPRESSION", {1: [last, project.condition_of(0)]}),
+                                      ("XOR_EXPRESSION", {1: project.condition_of(0), 2: last})]))
+    project.instances[first.number].put(1, last)
+    return r.choice([first, last])
+
+
+def with_expression(project, size):
+    """An executable whose expression has so many nodes."""
+    r = project.r
+    if size % 2 == 1 and r.random() < 0.3:
+        return project.add("ASSIGNMENT", {2: project.variable(), 3: value_of_size(project, size)})
+    return conditional(project, condition_of_size(project, size))
+
+
+def conditional(project, condition):
+    return project.add(*project.r.choice([("IF_STATEMENT", {2: condition, 3: project.leaf(), 4: "$"}), ("WHILE_STATEMENT", {2: condition, 3: project.leaf()})]))
+
+
+def too_big_expression(project):
+    """ExprTooBig, or an expression as big as one may be"""
+    r = project.r
+    if r.random() < 0.3:
+        put_in(project, conditional(project, endless(project)))
     else:
-        elements.insert(0, project.extra(r.choice([2, 3, 9, 12])))
+        put_in(project, with_expression(project, MOST_EXPRESSION + r.choice([-1, 0, 0, 1, 1, 2])))
+
+
+def size_of_tree(project):
+    """How many nodes the tree has with its expressions, as far as these are small; what is shared or endless counts once."""
+    sizes = {}
+
+    def size(parameter, level):
+        if not isinstance(parameter, Ref):
+            return 1
+        if parameter.number not in sizes:
+            instance, sizes[parameter.number] = project.instances.get(parameter.number), MOST_EXPRESSION
+            if instance is None or level > 100:
+                return MOST_EXPRESSION
+            operands = [instance.get(used.position) for used in USED[instance.code]] if 16 <= instance.code <= 28 else []
+            items = [item for operand in operands for item in (operand if isinstance(operand, list) else [operand])]
+            sizes[parameter.number] = min(MOST_EXPRESSION, 1 + sum(size(item, level + 1) for item in items))
+        return sizes[parameter.number]
+
+    weight = 0
+    for instance in in_tree(project).values():
+        position = {IF: 2, WHILE: 2, ASSIGNMENT: 3}.get(instance.code)
+        weight += 1 + (size(instance.get(position), 0) if position else 0)
+    return weight
+
+
+def too_many_nodes(project):
+    """TooManyNodes, or as many as a tree may have"""
+    r = project.r
+    condition, assigned = condition_of_size(project, MOST_EXPRESSION), value_of_size(project, MOST_EXPRESSION - 1)
+    variable, executables = project.variable(), []
+    left = MOST_NODES - size_of_tree(project) + r.choice([-1, 0, 0, 1, 1, 2])
+    while left >= MOST_EXPRESSION + 2:
+        if r.random() < 0.5:
+            executables.append(project.add("WHILE_STATEMENT", {2: condition, 3: project.add("SET_MARK", {})}))
+            left -= MOST_EXPRESSION + 2
+        else:
+            executables.append(project.add("ASSIGNMENT", {2: variable, 3: assigned}))
+            left -= MOST_EXPRESSION
+    if left > 1:
+        executables.append(project.add("WHILE_STATEMENT", {2: condition_of_size(project, left - 2), 3: project.add("SET_MARK", {})})
+                           if left > 2 else project.add("ASSIGNMENT", {2: variable, 3: "1."}))
+    elif left == 1:
+        executables.append(project.add("SET_MARK", {}))
+    if r.random() < 0.3:
+        executables.insert(r.randint(0, len(executables)), faulty_node(project))
+    put_in(project, *executables)
+
+
+def too_many_channels(project):
+    """TooManyChannels, or as many as there may be"""
+    r = project.r
+    known = {instance.get(3).number for instance in in_tree(project).values() if instance.code == WORKPLAN and isinstance(instance.get(3), Ref)}
+    count = max(1, MOST_CHANNELS - len(known) + r.choice([-1, 0, 0, 1, 1, 2]))
+    for _ in range(count):
+        plan = project.add("WORKPLAN", {2: [project.leaf()] if r.random() < 0.3 else [], 3: project.add("CHANNEL", {})})
+        put_in(project, plan)
+
+
+def two_of_the_tree(project):
+    """Two faults of the tree"""
+    for fault in project.r.sample([shared, too_deep_tree, too_big_expression, too_many_channels], 2):
+        fault(project)
 
 
 def missing(project):
@@ -653,10 +916,10 @@ def too_deep(project):
 
 
 SAID_FAULTS = [
-    (3, wrong_attribute), (1, without_project), (1.5, two_projects), (3, lost_reference), (3, wrong_target), (2, not_built), (3, missing),
+    (3, wrong_attribute), (1, without_project), (1.5, two_projects), (3, lost_reference), (3, wrong_target), (1, another_kind), (3, missing),
     (2, toolpath), (2.5, turned), (4, mismatched), (4, not_rectangle), (3, changed_number), (4, not_positive), (3, out_of_range),
     (1.5, lost_corner), (2.5, far_point), (1, far_contour), (2, edge_of_allowance), (2, at_edge_of_blocks), (2, tool_too_big),
-    (1.5, too_deep),
+    (1.5, too_deep), (4, shared), (3, too_deep_tree), (4, too_big_expression), (0.7, too_many_nodes), (3, too_many_channels), (3, two_of_the_tree),
 ]
 
 
@@ -874,9 +1137,9 @@ def chosen(r, weighted):
 
 
 def random_file(r):
-    """The bytes of a random project file, and the numbers of the steps that it began with."""
+    """The bytes of a random project file, the numbers of the steps that it began with, and whether these are nested."""
     if r.random() < 0.001:
-        return many_instances(r), []
+        return many_instances(r), [], False
     project = random_project(r)
     for _ in range(r.choices([0, 1, 2, 3], [35, 35, 20, 10])[0]):
         chosen(r, SAID_FAULTS)(project)
@@ -888,17 +1151,17 @@ def random_file(r):
         data = mutated(r, data)
     if r.random() < 0.008 and b";" in data:
         data = filled_up(r, data)
-    return data, project.steps
+    return data, project.steps, project.is_nested
 
 
-def random_words(r, file_name, steps):
+def random_words(r, file_name, steps, is_nested):
     """The words of a command for this file; a few of them are faulty."""
     if r.random() < 0.02:
         pool = ["replay", "path", "--help", "--version", "-", "", "0", "1", "007", "2000000", "2000001", "2147483647", "2147483648", "run",
                 file_name, "X", "\udcff", "+5", "5 ", "-1", "99999999999"]
         begin = r.choice([[], ["replay", file_name], ["replay", file_name, "-", "-"], ["path", file_name], ["--help"]])
         return begin + [r.choice(pool) for _ in range(r.randrange(4))]
-    if r.random() < 0.7:
+    if r.random() < (0.3 if is_nested else 0.7):  # of most trees `replay` says only that they aren't built
         limit = r.choice([1, r.randint(1, 30), r.randint(1, 300), r.randint(1, 40_000), 2_000_000, 2_000_000])
         return ["replay", file_name, "-", "-", str(limit)]
     number = r.choice(steps) if steps and r.random() < 0.8 else r.choice([1, 2, r.randint(1, 200), 2_147_483_647])
@@ -908,5 +1171,5 @@ def random_words(r, file_name, steps):
 def random_case(seed, index, file_name):
     """Case `index` of a seed: the file's bytes and the words of the command."""
     r = random.Random(f"{seed} {index}")
-    data, steps = random_file(r)
-    return data, random_words(r, file_name, steps)
+    data, steps, is_nested = random_file(r)
+    return data, random_words(r, file_name, steps, is_nested)

@@ -1,12 +1,16 @@
 """Worked examples for the second implementation, worked out by hand: bench/compare --self-test.
 
-Beside those typed here, every command with its output in README.md, docs/FORMATS.md and examples/README.md is compared.
+Beside those typed here and in worked_trees.py, every command with its output in README.md, docs/FORMATS.md and examples/README.md is compared, and so
+are the rows of docs/FORMATS.md that change an instance or two of the example of a hole.
 """
 
 import re
+import subprocess
+import sys
 from pathlib import Path
 
 import oracle
+import worked_trees
 
 ROOT = Path(__file__).resolve().parent.parent
 PAGES = ["README.md", "docs/FORMATS.md", "examples/README.md"]
@@ -74,9 +78,6 @@ REFUSED = [
     (HOLE, ["#70=CARTESIAN_POINT('',(1.E13));"], "BadAttribute 70 2"),
     (HOLE, ["#77=PARALLEL('',());"], "BadAttribute 77 2"),
     (HOLE, ["#77=PROJECT('Q',#2);", "#76=PROJECT('R',#2);"], "ManyProjects 77"),
-    (HOLE, ["#2=WORKPLAN('MAIN',(#10),#3);", "#3=CHANNEL('0');"], "NotBuilt"),
-    (HOLE, ["#2=WORKPLAN('MAIN',(#10,#10),$);"], "NotBuilt"),
-    (HOLE, ["#2=WORKPLAN('MAIN',(#3),$);", "#3=WORKPLAN('',(#10),$);"], "NotBuilt"),
     (HOLE, ["#0=A();"], "BadName 713"),
     (HOLE, ["#20=ROUND_HOLE('H',$,(),#60,#51," + "1" * 39 + ");"], "NumberTooLong 265"),
     (HOLE, ["#20=ROUND_HOLE('H',$,(),#60,#51,-" + "1" * 38 + ".0);"], "NumberTooLong 265"),
@@ -197,11 +198,25 @@ def refusal(said, status=oracle.PROJECT_REFUSED):
     return status, f"refused {said}\n".encode()
 
 
+def short(instances):
+    return str(instances)[:300]
+
+
 def cases():
     """A title, the answer, and the answer that was worked out by hand, for each example."""
     for name, instances, said in REFUSED:
         given = ask(REPLAY, changed(name, instances))
         yield f"{name} with {instances}", given if said else given[0], refusal(said) if said else 0
+    for instances, said in worked_trees.REFUSED:
+        data = changed(HOLE, instances)
+        given = ask(REPLAY, data)
+        yield short(instances), given if said else given[0], refusal(said) if said else 0
+        if said and said != "NotBuilt" and len(data) < 100_000:  # path has the same faults before it looks for its step
+            yield "path of " + short(instances), ask(PATH, data), refusal(said)
+    whole = ask(PATH, example(HOLE))
+    for instances, number, is_step in worked_trees.STEPS:
+        given = ask(["path", "P", str(number)], changed(HOLE, instances))
+        yield f"path {number} of {short(instances)}", given, whole if is_step else refusal(f"NoStep {number}")
     for text, said in TEXTS:
         yield repr(text), ask(REPLAY, text), refusal(said) if said else (0, DONE_EMPTY.encode())
     for words, place in WORDS:
@@ -227,6 +242,8 @@ def cases():
     yield "20,000 blocks", len(ask(PATH, changed(POCKET, edge))[1].splitlines()), 20_000
     yield "the table of docs/FORMATS.md", table_of_formats(), [line for line in oracle.TABLE.strip().splitlines()]
     yield from shown_cases()
+    yield from outlines()
+    yield from rows_of_formats()
 
 
 def table_of_formats():
@@ -250,6 +267,20 @@ def shown_cases():
                 told = "".join(line for line in output.splitlines(True) if not line.startswith("stepnc: "))  # those go to standard error
                 if output:
                     yield f"{page}: {command}", text, told
+
+
+def outlines():
+    """The outlines that examples/README.md shows."""
+    for block in re.findall(r"```\n(.*?)```", (ROOT / "examples" / "README.md").read_text(), re.S):
+        for file, output in re.findall(r"^\$ examples/tree (\S+)\n((?:(?!\$ ).*\n)*)", block, re.M):
+            done = subprocess.run([sys.executable, ROOT / "examples" / "tree", ROOT / file], stdout=subprocess.PIPE, env={"PYTHONIOENCODING": "utf-8"})
+            yield f"tree {file}", done.stdout.decode(), output
+
+
+def rows_of_formats():
+    """The rows of docs/FORMATS.md that change the example of a hole and give the refusal."""
+    for instances, said in re.findall(r"^\| ((?:`#\d+=[^`]*;` ?)+)\| `refused ([^`]+)` \|$", oracle.FORMATS.read_text(), re.M):
+        yield instances, ask(REPLAY, changed(HOLE, re.findall("`([^`]*)`", instances))), refusal(said)
 
 
 def differences():
