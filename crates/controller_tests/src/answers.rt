@@ -63,7 +63,7 @@ fn expect_rows(rt: &impl Abort, alloc: Global, rows: &[Row]) -> Result<(), Fail>
     Ok(())
 }
 
-const RUNS: [Row; 5] = [
+const RUNS: [Row; 9] = [
     (HOLE, &[], &REPLAY, Status::Done, Text(HOLE_LOG)),
     (
         HOLE,
@@ -87,6 +87,36 @@ const RUNS: [Row; 5] = [
         Status::Done,
         Text("STEPNC-LOG 1\nend done 0\n"),
     ),
+    // The main workplan's channel is named for display alone.
+    (
+        HOLE,
+        &[("(#10),$", "(#10),#3);\n#3=CHANNEL('0'")],
+        &REPLAY,
+        Status::Done,
+        Text(HOLE_LOG),
+    ),
+    // What isn't a workingstep directly in the main workplan is read, and not run yet.
+    (
+        HOLE,
+        &[("(#10),$);", "(#10,#3),$);\n#3=SET_MARK('S');")],
+        &REPLAY,
+        Status::ProjectRefused(ProjectReason::NotBuilt),
+        Text("refused NotBuilt\n"),
+    ),
+    (
+        HOLE,
+        &[("(#10),$);", "(#3),$);\n#3=WORKPLAN('INNER',(#10),$);")],
+        &REPLAY,
+        Status::ProjectRefused(ProjectReason::NotBuilt),
+        Text("refused NotBuilt\n"),
+    ),
+    (
+        HOLE,
+        &[("(#10),$);", "(#10,#3),$);\n#3=PARALLEL('BOTH',());")],
+        &REPLAY,
+        Status::ProjectRefused(ProjectReason::NotBuilt),
+        Text("refused NotBuilt\n"),
+    ),
     (
         PLATE,
         &[],
@@ -101,7 +131,7 @@ fn projects_are_run_up_to_the_limit(rt: HostRuntime) -> Result<(), Fail> {
     expect_rows(&rt, rt.alloc(), &RUNS)
 }
 
-const PATHS: [Row; 9] = [
+const PATHS: [Row; 10] = [
     (HOLE, &[], &PATH, Status::Written, Text(HOLE_PATH)),
     (FACE, &[], &PATH, Status::Written, Text(FACE_PATH)),
     (POCKET, &[], &PATH, Status::Written, Text(POCKET_PATH)),
@@ -132,6 +162,14 @@ const PATHS: [Row; 9] = [
         &["path", "plate.stp", "13"],
         Status::Written,
         Lines(88),
+    ),
+    // A step that stands deeper in the tree has its path as well.
+    (
+        HOLE,
+        &[("(#10),$);", "(#3),$);\n#3=WORKPLAN('INNER',(#10),$);")],
+        &PATH,
+        Status::Written,
+        Text(HOLE_PATH),
     ),
     // The smallest pocket, and the one with the most blocks.
     (
@@ -275,7 +313,7 @@ fn bad_words_are_refused_at_their_place(rt: HostRuntime) -> Result<(), Fail> {
 /// What `plate.stp` holds, with its changes, and the reason for which it is refused whatever the words ask of it.
 type Refused = (&'static str, Changes, &'static str);
 
-const REFUSED: [Refused; 27] = [
+const REFUSED: [Refused; 28] = [
     (
         HOLE,
         &[("#51,10.)", "#51,111111111111111111111111111111111111111)")],
@@ -307,16 +345,22 @@ const REFUSED: [Refused; 27] = [
         &[("#10=MACH", "#3=PROJECT('Q',#2);\n#10=MACH")],
         "ManyProjects 3",
     ),
+    (HOLE, &[("(#10),$", "(#10,#10),$")], "Shared 10"),
     (
         HOLE,
-        &[("(#10),$", "(#10),#3);\n#3=CHANNEL('0'")],
-        "NotBuilt",
+        &[("(#10),$);", "(#10,#2),$);")],
+        "Shared 2",
     ),
-    (HOLE, &[("(#10),$", "(#10,#10),$")], "NotBuilt"),
+    // What a step is made of is looked at after the tree.
     (
         HOLE,
-        &[("(#10),$);", "(#10,#3),$);\n#3=SET_MARK('S');")],
-        "NotBuilt",
+        &[("(#10),$", "(#10,#10),$"), ("#60,#51,10.", "$,#51,10.")],
+        "Shared 10",
+    ),
+    (
+        HOLE,
+        &[("(#10),$);", "(#10,#3),$);\n#3=ASSIGNMENT('A',#4,#5);\n#4=NC_VARIABLE('V',0.);\n#5=!NC_SUM(#5,#5);")],
+        "ExprTooBig 3",
     ),
     (
         HOLE,

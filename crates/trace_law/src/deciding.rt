@@ -33,14 +33,21 @@ pub fn first_stray(alloc: Global, tree: &Tree, t: &[Entry]) -> Result<Option<Ent
     Ok(None)
 }
 
+/// Each number stands once in a tree: its type keeps that.
+fn numbers_stand_once(tree: &Tree)
+    ensures { AreDistinct (nodes (tree_in tree.now)) }
+{
+    tree.nodes();
+}
+
 /// Whether the entries are a run so far of the tree: none of them strays from it.
 ///
 /// # Errors
 /// `NoMemory` where there is none for numbers and entries on the way.
 pub fn part(alloc: Global, tree: &Tree, t: &[Entry]) -> Result<bool, NoMemory>
-    requires { AreDistinct (nodes (tree_in tree.now)) }
     ensures { IfOk result (λ yes. IsTrue yes ↔ Part (tree_in tree.now) t.now) }
 {
+    numbers_stand_once(tree);
     strays_are_found();
     match first_stray(alloc, tree, t)? {
         None => Ok(true),
@@ -53,9 +60,9 @@ pub fn part(alloc: Global, tree: &Tree, t: &[Entry]) -> Result<bool, NoMemory>
 /// # Errors
 /// `NoMemory` where there is none for numbers and entries on the way.
 pub fn whole(alloc: Global, tree: &Tree, t: &[Entry]) -> Result<bool, NoMemory>
-    requires { AreDistinct (nodes (tree_in tree.now)) }
     ensures { IfOk result (λ yes. IsTrue yes ↔ Whole (tree_in tree.now) t.now) }
 {
+    numbers_stand_once(tree);
     whole_where_nothing_is_next();
     part_of_own_nodes();
     if !part(alloc, tree, t)? {
