@@ -303,20 +303,28 @@ class Project:
         """A value: a number, a constant, a variable, or a sum, difference or product; some of them are used in several places."""
         r = self.r
         if deep == 0 or r.random() < 0.4:
-            return r.choice([lambda: self.num(self.value(-9_000, 9_000)), self.variable, lambda: self.add("NC_CONSTANT", {2: self.num(r.randint(-9, 9))})])()
-        make = lambda: self.add(r.choice(KEYWORDS[r.randint(26, 28)]), {1: self.value_of(deep - 1), 2: self.value_of(deep - 1)})
-        return self.kept("value", make) if r.random() < 0.3 else make()
+            written = r.random()
+            if written < 0.4:
+                return self.num(self.value(-9_000, 9_000))
+            return self.variable() if written < 0.8 else self.add("NC_CONSTANT", {2: self.num(r.randint(-9, 9))})
+
+        def operator():
+            return self.add(r.choice(KEYWORDS[r.randint(26, 28)]), {1: self.value_of(deep - 1), 2: self.value_of(deep - 1)})
+
+        return self.kept("value", operator) if r.random() < 0.3 else operator()
 
     def condition_of(self, deep):
+        """A comparison, or conditions joined or turned round; some of them are used in several places."""
         r = self.r
         code = r.randint(16, 21) if deep == 0 or r.random() < 0.4 else r.randint(22, 25)
-        if code <= 21:
-            make = lambda: self.add(KEYWORDS[code][0], {1: self.value_of(deep), 2: self.value_of(deep)})
-        elif code <= 23:
-            make = lambda: self.add(KEYWORDS[code][0], {1: [self.condition_of(deep - 1) for _ in range(r.choice([0, 1, 2, 3]))]})
-        else:
-            make = lambda: self.add(KEYWORDS[code][0], {position: self.condition_of(deep - 1) for position in ((1, 2) if code == 24 else (1,))})
-        return self.kept("condition", make) if r.random() < 0.3 else make()
+
+        def operator():
+            if code <= 21:
+                return self.add(KEYWORDS[code][0], {1: self.value_of(deep), 2: self.value_of(deep)})
+            conditions = [self.condition_of(deep - 1) for _ in range({24: 2, 25: 1}.get(code, r.randrange(4)))]
+            return self.add(KEYWORDS[code][0], {1: conditions} if code <= 23 else dict(enumerate(conditions, 1)))
+
+        return self.kept("condition", operator) if r.random() < 0.3 else operator()
 
     def channel(self):
         return self.add("CHANNEL", {}) if self.r.random() < 0.2 else self.kept("channel", lambda: self.add("CHANNEL", {}))
@@ -545,7 +553,7 @@ def put_in(project, *executables):
         instance = r.choice(branching)
         instance.put(r.choice([3, 4]) if instance.code == IF else 3, executables[0])
     elif holders:
-        elements = r.choice(holders if r.random() < 0.6 else [project.main] if isinstance(project.main.get(2), list) else holders).get(2)
+        elements = (r.choice(holders) if r.random() < 0.6 else holders[0]).get(2)
         at = r.randint(0, len(elements))
         elements[at:at] = executables
 
@@ -611,7 +619,8 @@ def condition_of_size(project, size):
         return project.add(r.choice(["AND_EXPRESSION", "OR_EXPRESSION"]), {1: []})
     way = r.randrange(4)
     if way == 0 and size % 2 == 1:
-        return project.add(KEYWORDS[r.randint(16, 21)][0], {1: value_of_size(project, (size - 1) // 2 | 1), 2: value_of_size(project, size - 1 - ((size - 1) // 2 | 1))})
+        first = (size - 1) // 2 | 1
+        return project.add(KEYWORDS[r.randint(16, 21)][0], {1: value_of_size(project, first), 2: value_of_size(project, size - 1 - first)})
     if way == 1 and size > 2:
         half = (size - 1) // 2
         return project.add("XOR_EXPRESSION", {1: condition_of_size(project, half), 2: condition_of_size(project, size - 1 - half)})
@@ -619,9 +628,9 @@ def condition_of_size(project, size):
         times = r.choice([1, 2, 7, size - 1])
         each = (size - 1) // times
         if each:
-            item = condition_of_size(project, each)
             rest = size - 1 - each * times
-            return project.add(r.choice(["AND_EXPRESSION", "OR_EXPRESSION"]), {1: [item] * times + ([condition_of_size(project, rest)] if rest else [])})
+            conditions = [condition_of_size(project, each)] * times + ([condition_of_size(project, rest)] if rest else [])
+            return project.add(r.choice(["AND_EXPRESSION", "OR_EXPRESSION"]), {1: conditions})
     return project.add("NOT_EXPRESSION", {1: condition_of_size(project, size - 1)})
 
 
@@ -636,8 +645,9 @@ def endless(project):
     first = project.add("NOT_EXPRESSION", {1: "$"})
     last = first
     for _ in range(r.randrange(4)):
-        last = project.add(*r.choice([("NOT_EXPRESSION", {1: last}), ("OR_EXPRESSION", {1: [last, project.condition_of(0)]}),
-                                      ("XOR_EXPRESSION", {1: project.condition_of(0), 2: last})]))
+        other = project.condition_of(0)
+        keyword, used = r.choice([("NOT_EXPRESSION", {1: last}), ("OR_EXPRESSION", {1: [last, other]}), ("XOR_EXPRESSION", {1: other, 2: last})])
+        last = project.add(keyword, used)
     project.instances[first.number].put(1, last)
     return r.choice([first, last])
 
@@ -651,7 +661,10 @@ def with_expression(project, size):
 
 
 def conditional(project, condition):
-    return project.add(*project.r.choice([("IF_STATEMENT", {2: condition, 3: project.leaf(), 4: "$"}), ("WHILE_STATEMENT", {2: condition, 3: project.leaf()})]))
+    """An if or a while with this condition."""
+    if project.r.random() < 0.5:
+        return project.add("IF_STATEMENT", {2: condition, 3: project.leaf(), 4: "$"})
+    return project.add("WHILE_STATEMENT", {2: condition, 3: project.leaf()})
 
 
 def too_big_expression(project):
@@ -699,11 +712,10 @@ def too_many_nodes(project):
         else:
             executables.append(project.add("ASSIGNMENT", {2: variable, 3: assigned}))
             left -= MOST_EXPRESSION
-    if left > 1:
-        executables.append(project.add("WHILE_STATEMENT", {2: condition_of_size(project, left - 2), 3: project.add("SET_MARK", {})})
-                           if left > 2 else project.add("ASSIGNMENT", {2: variable, 3: "1."}))
-    elif left == 1:
-        executables.append(project.add("SET_MARK", {}))
+    if left > 2:
+        executables.append(project.add("WHILE_STATEMENT", {2: condition_of_size(project, left - 2), 3: project.add("SET_MARK", {})}))
+    else:
+        executables += [project.add("SET_MARK", {}) for _ in range(left)]
     if r.random() < 0.3:
         executables.insert(r.randint(0, len(executables)), faulty_node(project))
     put_in(project, *executables)

@@ -273,8 +273,8 @@ def outlines():
     """The outlines that examples/README.md shows."""
     for block in re.findall(r"```\n(.*?)```", (ROOT / "examples" / "README.md").read_text(), re.S):
         for file, output in re.findall(r"^\$ examples/tree (\S+)\n((?:(?!\$ ).*\n)*)", block, re.M):
-            done = subprocess.run([sys.executable, ROOT / "examples" / "tree", ROOT / file], stdout=subprocess.PIPE, env={"PYTHONIOENCODING": "utf-8"})
-            yield f"tree {file}", done.stdout.decode(), output
+            command = [sys.executable, ROOT / "examples" / "tree", ROOT / file]
+            yield f"tree {file}", subprocess.run(command, stdout=subprocess.PIPE, env={"PYTHONIOENCODING": "utf-8"}).stdout.decode(), output
 
 
 def rows_of_formats():
