@@ -346,11 +346,7 @@ const REFUSED: [Refused; 28] = [
         "ManyProjects 3",
     ),
     (HOLE, &[("(#10),$", "(#10,#10),$")], "Shared 10"),
-    (
-        HOLE,
-        &[("(#10),$);", "(#10,#2),$);")],
-        "Shared 2",
-    ),
+    (HOLE, &[("(#10),$);", "(#10,#2),$);")], "Shared 2"),
     // What a step is made of is looked at after the tree.
     (
         HOLE,
@@ -359,7 +355,10 @@ const REFUSED: [Refused; 28] = [
     ),
     (
         HOLE,
-        &[("(#10),$);", "(#10,#3),$);\n#3=ASSIGNMENT('A',#4,#5);\n#4=NC_VARIABLE('V',0.);\n#5=!NC_SUM(#5,#5);")],
+        &[(
+            "(#10),$);",
+            "(#10,#3),$);\n#3=ASSIGNMENT('A',#4,#5);\n#4=NC_VARIABLE('V',0.);\n#5=!NC_SUM(#5,#5);",
+        )],
         "ExprTooBig 3",
     ),
     (

@@ -281,15 +281,20 @@ fn what_a_star_uses_is_found(rt: HostRuntime) -> Result<(), Fail> {
     )
 }
 
-/// The main workplan of a project, and how many workingsteps and entities it has.
-fn sizes(project: &Project) -> (u32, usize, usize) {
-    (project.main, project.steps.len(), project.store.len())
+/// The main workplan of a project, and how many nodes its tree, workingsteps and entities it has.
+fn sizes(project: &Project) -> (u32, u32, usize, usize) {
+    (
+        project.tree.main_workplan(),
+        project.tree.len(),
+        project.steps.len(),
+        project.store.len(),
+    )
 }
 
 #[test]
 fn a_drilled_hole_is_read(rt: HostRuntime) -> Result<(), Fail> {
     let project = project(&rt, rt.alloc(), HOLE)?;
-    assert_eq!(&rt; sizes(&project), (2, 1, 17));
+    assert_eq!(&rt; sizes(&project), (2, 2, 1, 17));
     assert_eq!(&rt;
         reached(&project, rt.alloc(), 10)?.as_slice(),
         [10, 20, 30, 44, 45, 46, 47, 50, 51, 60, 61, 62, 70, 71, 72].as_slice()

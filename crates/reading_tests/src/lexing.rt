@@ -6,7 +6,7 @@ use LexErr::BadByte;
 use TokenKind::{Enumeration, Int, Name};
 use p21_lex::{
     LexErr, MAX_NAME, Piece, Token, TokenKind, name_number, next_piece, reading_laws, slice_tokens,
-    spells, tokens, tokens_fit,
+    spells, tokens, tokens_fit, tokens_from,
 };
 use std::alloc::{AllocError, Global};
 use std::process::Abort;
@@ -194,6 +194,47 @@ fn expect_slice(rt: &impl Abort, alloc: Global, line: &str) -> Result<(), Fail> 
 fn slices(rt: HostRuntime) -> Result<(), Fail> {
     for line in SLICES.lines() {
         expect_slice(&rt, rt.alloc(), line)?;
+    }
+    Ok(())
+}
+
+/// In each row a place, a text, and its tokens from there on, or why it is refused. What stands before the place isn't looked at.
+const BEHIND: &str = "0|A|Word 0 1\n\
+    2|A;|\n\
+    1|A;B|Semicolon 1 2, Word 2 3\n\
+    3|#0;#6=A('/*');|Name 3 5, Equals 5 6, Word 6 7, Open 7 8, Text 8 12, Close 12 13, Semicolon 13 14\n\
+    2|?;a|BadByte(2)\n\
+    2|'A'|OpenString(2)\n\
+    1|;#0|BadName(1)\n";
+
+/// The tokens of a text from a place on, or why it is refused.
+fn shown_behind(
+    rt: &impl Abort,
+    alloc: Global,
+    text: &[u8],
+    from: u32,
+) -> Result<String, AllocError> {
+    assert!(rt; text.len() < 100);
+    assert!(rt; from as usize <= text.len());
+    match tokens_from(alloc, text, from) {
+        Ok(found) => listed(alloc, found.as_slice()),
+        Err(refusal) => format!(in alloc; "{refusal:?}"),
+    }
+}
+
+fn expect_tokens_behind(rt: &impl Abort, alloc: Global, line: &str) -> Result<(), Fail> {
+    let (from, rest) = row(line);
+    let (text, want) = row(rest);
+    let bytes = bytes_of(alloc, text)?;
+    let found = shown_behind(rt, alloc, bytes.as_slice(), number(from))?;
+    assert_eq!(rt; found.as_str(), want, "of {text}");
+    Ok(())
+}
+
+#[test]
+fn tokens_behind_a_place(rt: HostRuntime) -> Result<(), Fail> {
+    for line in BEHIND.lines() {
+        expect_tokens_behind(&rt, rt.alloc(), line)?;
     }
     Ok(())
 }

@@ -4,7 +4,7 @@ use crate::made::{Kind, part, value, with_param};
 use crate::shared::{expect, joined, read_text};
 use nc_base::{NcText, NoMemory};
 use p21_parse::{Exchange, Instance, InstanceList, Param, ParamList, Part, PartList};
-use p21_print::{print, print_laws};
+use p21_print::{PrintErr, print, print_laws};
 use std::alloc::{AllocError, Global};
 use std::process::Abort;
 use std::test::Fail;
@@ -189,4 +189,58 @@ fn made(alloc: Global) -> Result<Exchange, Fail> {
 fn what_is_made_of_instances_is_printed_and_read_back(rt: HostRuntime) -> Result<(), Fail> {
     expect_print(&rt, rt.alloc(), &made(rt.alloc())?, MADE)?;
     expect_printed(&rt, rt.alloc(), MADE, MADE)
+}
+
+// An exchange made by hand, whose one instance has lists in one another, so many with its own parentheses. It has one at least.
+fn nested(alloc: Global, parentheses: u32) -> Result<Exchange, NoMemory> {
+    let mut list = ParamList::new(alloc);
+    for _ in 2..parentheses {
+        let mut outer = ParamList::new(alloc);
+        outer.push(Param::List(list))?;
+        list = outer;
+    }
+    let mut items = InstanceList::new(alloc);
+    items.push(with_param(alloc, 5, Param::List(list))?)?;
+    Ok(Exchange {
+        head: PartList::new(alloc),
+        items,
+    })
+}
+
+// The deepest exchange as it is printed.
+fn deepest(alloc: Global) -> Result<Vec<u8>, AllocError> {
+    joined(
+        alloc,
+        &[
+            (b"ISO-10303-21;\nHEADER;\nENDSEC;\nDATA;\n#5=A", 1),
+            (b"(", 32),
+            (b")", 32),
+            (b";\nENDSEC;\nEND-ISO-10303-21;\n", 1),
+        ],
+    )
+}
+
+// Stops unless an exchange isn't printed.
+fn expect_unprinted(rt: &impl Abort, alloc: Global, exchange: &Exchange, want: PrintErr) {
+    expect(rt, print(alloc, exchange).err(), Some(want));
+}
+
+#[test]
+fn at_most_32_parentheses_lie_in_one_another(rt: HostRuntime) -> Result<(), Fail> {
+    let deepest = deepest(rt.alloc())?;
+    expect_print(
+        &rt,
+        rt.alloc(),
+        &nested(rt.alloc(), 32)?,
+        deepest.as_slice(),
+    )?;
+    for parentheses in [33, 100] {
+        expect_unprinted(
+            &rt,
+            rt.alloc(),
+            &nested(rt.alloc(), parentheses)?,
+            PrintErr::TooDeep,
+        );
+    }
+    Ok(())
 }
