@@ -112,7 +112,10 @@ const RUNS: [Row; 9] = [
     ),
     (
         HOLE,
-        &[("(#10),$);", "(#10,#3),$);\n#3=PARALLEL('BOTH',());")],
+        &[(
+            "(#10),$);",
+            "(#10,#3),$);\n#3=PARALLEL('BOTH',(#4));\n#4=SET_MARK('S');",
+        )],
         &REPLAY,
         Status::ProjectRefused(ProjectReason::NotBuilt),
         Text("refused NotBuilt\n"),
