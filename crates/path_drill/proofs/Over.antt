@@ -1,5 +1,5 @@
 -- A hole's path stays over its place.
-use Rattle.std.proofs.Common.{◌≡◌, refl, ℤ, pos, ◌≤ℤ◌, Bool, true, false, IsTrue, List, [], ◌∷◌, ◌++◌, arith}
+use Rattle.std.proofs.Common.{refl, ℤ, pos, ◌≤ℤ◌, Bool, true, false, IsTrue, [], ◌∷◌, ◌++◌, arith}
 use Rattle.std.specs.Prelude.{All, int_lt, if◌then◌else◌}
 use Rattle.std.proofs.lemmas.Int.{ints}
 use Rattle.std.proofs.lemmas.List.Elements.{All-nil, All-cons, All-append}

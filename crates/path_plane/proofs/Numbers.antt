@@ -1,5 +1,5 @@
 -- The numbers of a face fit the machine's.
-use Rattle.std.proofs.Common.{◌≡◌, ◌∙◌, inl, inr, refl, Bool, true, false, ◌&&◌, ◌||◌, zero, suc, ℕ, ℤ, pos, negsuc, ◌+ℤ◌, ◌-ℤ◌, ◌*ℤ◌, ◌*◌, ◌≤◌, ◌<◌, ◌⊎◌, IsTrue, FitsSigned, to_z, of_z, w64, arith, unsigned_abs, ap}
+use Rattle.std.proofs.Common.{◌≡◌, inl, inr, refl, Bool, true, false, ◌&&◌, ◌||◌, ℕ, ℤ, pos, ◌+ℤ◌, ◌*ℤ◌, ◌≤◌, ◌<◌, ◌⊎◌, IsTrue, FitsSigned, to_z, of_z, w64, arith, unsigned_abs, ap}
 use Rattle.std.proofs.lemmas.Bool.Decides.{Decides-int_eq}
 use Rattle.std.proofs.lemmas.Int.{ints, to_z-of_z, unsigned_abs-mul, fits_signed_from_abs}
 use Rattle.std.proofs.lemmas.Nat.{mul-le}

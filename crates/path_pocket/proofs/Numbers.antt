@@ -1,10 +1,10 @@
 -- The numbers of a pocket fit the machine's.
-use Rattle.std.proofs.Common.{◌≡◌, ◌∙◌, ap, refl, ℕ, ℤ, pos, ◌+ℤ◌, ◌-ℤ◌, ◌*◌, ◌/◌, ◌≤◌, ◌<◌, min, IsTrue, FitsSigned, to_z, of_z, w64, arith, unsigned_abs}
+use Rattle.std.proofs.Common.{◌≡◌, ℕ, ℤ, pos, ◌+ℤ◌, ◌-ℤ◌, ◌*◌, ◌/◌, ◌≤◌, ◌<◌, min, IsTrue, FitsSigned, to_z, of_z, w64, arith, unsigned_abs}
 use Rattle.std.proofs.lemmas.Int.{ints, to_z-of_z}
 use Rattle.std.proofs.Math.Nat.{le-div_iff_mul-le}
 use Rattle.std.specs.Int.{is_positive}
 use Rattle.path_blocks.specs.Range.{is_within}
-use Rattle.path_blocks.specs.PathPocket.{Rectangle, innermost}
+use Rattle.path_blocks.specs.PathPocket.{innermost}
 use Rattle.path_blocks.specs.ShapeRanges.{PocketRanges, pocket_ranges}
 use Rattle.path_pocket.specs.Inset.{rectangle_of}
 use Rattle.path_pocket.specs.declared.inset.Inset.{Inset}

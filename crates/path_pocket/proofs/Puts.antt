@@ -1,5 +1,5 @@
 -- What is put one after the other.
-use Rattle.std.proofs.Common.{◌≡◌, ◌∙◌, ap, ℕ, ℤ, List, [], ◌∷◌, ◌++◌, append_assoc, refl}
+use Rattle.std.proofs.Common.{◌≡◌, ◌∙◌, ap, ℤ, List, [], ◌∷◌, ◌++◌, append_assoc}
 use Rattle.std.specs.List.{flat_map}
 use Rattle.path_blocks.specs.declared.block.Block.{Block}
 use Rattle.path_blocks.specs.declared.block.Block.TheVariants.{Tool, Feed}

@@ -1,12 +1,12 @@
 -- The feeds of a pocket stay within it.
-use Rattle.std.proofs.Common.{◌≡◌, ◌∙◌, ap, subst, sym, refl, zero, suc, ℕ, ℤ, pos, ◌+◌, ◌-◌, ◌*◌, ◌/◌, ◌+ℤ◌, ◌-ℤ◌, ◌≤◌, ◌<◌, ◌≤ℤ◌, ◌<ℤ◌, int_le, min, IsTrue, List, [], ◌∷◌, ◌++◌, map, arith, unsigned_abs, true}
-use Rattle.std.specs.Prelude.{All, ⊤}
+use Rattle.std.proofs.Common.{zero, suc, ℕ, ℤ, pos, ◌-◌, ◌*◌, ◌+ℤ◌, ◌-ℤ◌, ◌≤◌, ◌<◌, ◌≤ℤ◌, ◌<ℤ◌, int_le, min, IsTrue, List, [], ◌∷◌, ◌++◌, arith, unsigned_abs}
+use Rattle.std.specs.Prelude.{All}
 use Rattle.std.specs.List.{flat_map}
 use Rattle.std.proofs.lemmas.Int.{ints}
 use Rattle.std.proofs.lemmas.List.Elements.{All-nil, All-cons, All-head, All-tail, All-append, All-push, All-map, All-weaker}
 use Rattle.std.proofs.Math.Nat.{div-mul-le_self}
 use Rattle.path_blocks.specs.declared.block.Block.{Block}
-use Rattle.path_blocks.specs.declared.block.Block.TheVariants.{Tool, Rapid, Feed}
+use Rattle.path_blocks.specs.declared.block.Block.TheVariants.{Tool, Feed}
 use Rattle.path_blocks.specs.declared.def.Def.{Def}
 use Rattle.path_blocks.specs.declared.def.Shape.{Shape}
 use Rattle.path_blocks.specs.declared.def.Shape.TheVariants.{Drill, Plane, Pocket}
@@ -17,7 +17,7 @@ use Rattle.path_blocks.specs.PathPocket.{Rectangle, down_from, innermost, path_p
 use Rattle.path_blocks.specs.Kind.{is_pocket}
 use Rattle.path_blocks.specs.Path.{path_of, path_of_shape}
 use Rattle.path_blocks.specs.WithinPocket.{FeedsWithin, LiesIn, StaysWithin}
-use Rattle.path_blocks.specs.ShapeRanges.{PocketRanges, pocket_ranges}
+use Rattle.path_blocks.specs.ShapeRanges.{pocket_ranges}
 use Rattle.path_pocket.proofs.Numbers.{inward, positive_abs}
 
 -- what holds of each piece holds of all

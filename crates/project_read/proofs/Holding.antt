@@ -14,7 +14,7 @@ use Rattle.project_read.specs.declared.reason.ProjectErr.{ProjectErr}
 use Rattle.project_read.specs.declared.reason.ProjectErr.TheVariants.{Refused, NoMemory}
 use Rattle.project_read.specs.declared.project.Project.{Project as Held}
 use Rattle.project_read.specs.Faults.{has_def}
-use Rattle.project_read.specs.Holds.{Project, HasStore, HasTree}
+use Rattle.project_read.specs.Holds.{Project, HasStore}
 use Rattle.project_read.specs.Reads.{Reads, ReadsStore, AreSteps}
 
 pub no_store : (bytes : List ℕ) (e : ProjectErr) → ReadsStore bytes (Err e) → Reads bytes (Err e)

@@ -1,5 +1,5 @@
 -- The workingsteps of a tree.
-use Rattle.std.proofs.Common.{◌≡◌, ℕ, Bool, true, false, ◌&&◌, ◌==◌, List, [], ◌∷◌, Option, Some, None, refl, sym, ap, subst, ◌∙◌}
+use Rattle.std.proofs.Common.{◌≡◌, ℕ, Bool, true, false, ◌==◌, List, [], ◌∷◌, Option, Some, None, refl}
 use Rattle.std.specs.List.{list_all, filter}
 use Rattle.entity_types.specs.declared.class.Class.{Class}
 use Rattle.entity_types.specs.declared.class.Class.TheVariants.{MachiningWorkingstep}

@@ -1,6 +1,5 @@
-use Rattle.std.proofs.Common.{◌≡◌, ◌∙◌, ap, ℕ, ℤ, List, ◌++◌, take, w64, to_z, of_z, arith, length, FitsSigned, rules}
+use Rattle.std.proofs.Common.{◌≡◌, ◌∙◌, ap, ℤ, ◌++◌, w64, arith, length, FitsSigned, rules}
 use Rattle.std.proofs.lemmas.Int.{to_z-of_z}
-use Rattle.std.specs.List.{flat_map}
 use Rattle.path_blocks.specs.Numbers.{numbers_of, levels}
 use Rattle.path_blocks.specs.PathPlane.{plane_level}
 use Rattle.path_plane.specs.Facing.{face_of}

@@ -1,4 +1,4 @@
-use Rattle.std.proofs.Common.{◌≡◌, ◌∙◌, ap, ℕ, ℤ, List, ◌++◌, take, w64, to_z, of_z, arith, length}
+use Rattle.std.proofs.Common.{◌≡◌, ◌∙◌, ap, ℤ, ◌++◌, w64, to_z, of_z, arith, length}
 use Rattle.std.proofs.lemmas.Int.{to_z-of_z}
 use Rattle.std.specs.List.{flat_map}
 use Rattle.path_blocks.specs.Numbers.{numbers_of}

@@ -1,4 +1,4 @@
-use Rattle.std.proofs.Common.{rules, arith, ◌≡◌, ◌∙◌, ap, sym, refl, ℕ, ℤ, suc, pos, ◌+◌, ◌-◌, ◌*◌, ◌<◌, ◌≤◌, ◌-ℤ◌, ◌+ℤ◌, min, FitsSigned, w64, to_z, of_z, Some, List, [], ◌∷◌, ◌++◌, take, length, unsigned_abs}
+use Rattle.std.proofs.Common.{rules, ◌∙◌, ap, ℕ, FitsSigned, w64, to_z, of_z, List, [], ◌∷◌, ◌++◌}
 use Rattle.std.proofs.lemmas.Int.{to_z-of_z}
 use Rattle.path_blocks.specs.declared.block.Block.{Block}
 use Rattle.path_blocks.specs.declared.block.Block.TheVariants.{Tool}

@@ -1,6 +1,5 @@
-use Rattle.std.proofs.Common.{rules, arith, ◌≡◌, ◌∙◌, ap, sym, refl, ℕ, ℤ, suc, pos, ◌+◌, ◌-◌, ◌*◌, ◌<◌, ◌≤◌, ◌-ℤ◌, ◌+ℤ◌, min, FitsSigned, w64, to_z, of_z, Some, List, [], ◌∷◌, ◌++◌, take, length, unsigned_abs}
+use Rattle.std.proofs.Common.{rules, arith, ◌≡◌, ◌∙◌, ap, ℤ, FitsSigned, w64, ◌++◌, length}
 use Rattle.std.proofs.lemmas.Int.{to_z-of_z}
-use Rattle.std.specs.List.{flat_map}
 use Rattle.path_blocks.specs.Numbers.{numbers_of, levels}
 use Rattle.path_blocks.specs.PathPocket.{pocket_level}
 use Rattle.path_pocket.specs.Inset.{rectangle_of}

@@ -1,7 +1,6 @@
-use Rattle.std.proofs.Common.{rules, arith, ◌≡◌, ◌∙◌, ap, sym, refl, ℕ, ℤ, suc, pos, ◌+◌, ◌-◌, ◌*◌, ◌<◌, ◌≤◌, ◌-ℤ◌, ◌+ℤ◌, min, FitsSigned, w64, to_z, of_z, Some, List, [], ◌∷◌, ◌++◌, take, length, unsigned_abs}
+use Rattle.std.proofs.Common.{arith, ◌≡◌, ◌∙◌, ap, ℕ, ℤ, suc, ◌+◌, ◌<◌, w64, to_z, of_z, ◌++◌}
 use Rattle.std.proofs.lemmas.Int.{to_z-of_z}
 use Rattle.std.specs.List.{flat_map}
-use Rattle.path_blocks.specs.declared.block.Block.{Block}
 use Rattle.path_blocks.specs.Numbers.{numbers_of}
 use Rattle.path_blocks.specs.PathPocket.{Rectangle, down_from, innermost, ring, rings, round}
 use Rattle.path_pocket.specs.Inset.{rectangle_of}

@@ -1,4 +1,4 @@
-use Rattle.std.proofs.Common.{◌≡◌, ◌++◌, suc, ℕ}
+use Rattle.std.proofs.Common.{◌≡◌, ◌++◌, ℕ}
 use Rattle.std.specs.List.{flat_map}
 use Rattle.path_blocks.specs.Numbers.{numbers_of}
 use Rattle.path_blocks.specs.PathPocket.{down_from, ring, rings, round}

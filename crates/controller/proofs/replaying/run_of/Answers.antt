@@ -1,4 +1,4 @@
-use Rattle.std.proofs.Common.{◌≡◌, sym, subst, List, ap, ℕ, ◌∙◌}
+use Rattle.std.proofs.Common.{◌≡◌, sym, subst, List, ap, ◌∙◌}
 use Rattle.project_store.specs.Entities.{entity_at}
 use Rattle.exec_tree.specs.Exec.{works}
 use Rattle.exec_tree.specs.Built.{main_of}

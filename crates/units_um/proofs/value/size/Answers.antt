@@ -1,4 +1,4 @@
-use Rattle.std.proofs.Common.{length, ap, arith}
+use Rattle.std.proofs.Common.{ap, arith}
 use Rattle.std.specs.Option.{option_map}
 use Rattle.units_um.specs.View.{fraction_view}
 use Rattle.units_um.proofs.Sizes.{size_int, size_real, digits_real}

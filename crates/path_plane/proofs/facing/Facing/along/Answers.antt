@@ -1,5 +1,4 @@
-use Rattle.std.proofs.Common.{rules, arith, ◌≡◌, ◌∙◌, ap, sym, ℕ, ℤ, ◌+◌, ◌-◌, ◌<◌, ◌≤◌, FitsSigned, w64, to_z, of_z, Some, length, unsigned_abs}
-use Rattle.std.proofs.lemmas.Int.{to_z-of_z}
+use Rattle.std.proofs.Common.{rules, ◌≤◌, FitsSigned, w64, unsigned_abs}
 use Rattle.path_plane.proofs.Numbers.{facing_ranges, course_abs, times_abs, times_fits, times_back}
 use Rattle.path_plane.proofs.facing.Facing.along.Goals as goal
 use Rattle.path_plane.specs.declared.facing.Facing.{Facing}

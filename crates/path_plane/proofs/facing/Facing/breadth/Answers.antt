@@ -1,4 +1,4 @@
-use Rattle.std.proofs.Common.{rules, arith, ◌≡◌, ◌∙◌, ap, sym, ℕ, ℤ, ◌+◌, ◌-◌, ◌<◌, ◌≤◌, FitsSigned, w64, to_z, of_z, Some, length, unsigned_abs}
+use Rattle.std.proofs.Common.{rules, arith, ◌∙◌, ap, FitsSigned, w64, unsigned_abs}
 use Rattle.std.proofs.lemmas.Int.{to_z-of_z}
 use Rattle.path_plane.proofs.Numbers.{facing_ranges, positive_abs, within_abs}
 use Rattle.path_plane.proofs.facing.Facing.breadth.Goals as goal

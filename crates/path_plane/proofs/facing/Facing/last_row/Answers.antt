@@ -1,6 +1,4 @@
-use Rattle.std.proofs.Common.{rules, arith, ◌≡◌, ◌∙◌, ap, sym, ℕ, ℤ, ◌+◌, ◌-◌, ◌<◌, ◌≤◌, FitsSigned, w64, to_z, of_z, Some, length, unsigned_abs}
-use Rattle.std.proofs.lemmas.Int.{to_z-of_z}
-use Rattle.std.specs.List.{enumerate_from}
+use Rattle.std.proofs.Common.{arith, ◌∙◌, ap, ℕ, length, unsigned_abs}
 use Rattle.std.proofs.lemmas.List.FromFn.{length-enumerate_from}
 use Rattle.path_blocks.specs.Cuts.{cuts, cut_count}
 use Rattle.path_plane.proofs.facing.Facing.last_row.Goals as goal

@@ -1,6 +1,6 @@
-use Rattle.std.proofs.Common.{rules, arith, ◌≡◌, ◌∙◌, ap, sym, ℕ, ℤ, ◌+◌, ◌-◌, ◌<◌, ◌≤◌, FitsSigned, w64, to_z, of_z, Some, length, unsigned_abs}
+use Rattle.std.proofs.Common.{rules, arith, ◌≡◌, ℤ, FitsSigned, w64}
 use Rattle.std.proofs.lemmas.Int.{to_z-of_z}
-use Rattle.std.proofs.Common.{Bool, true, false, cond, pos, ◌+ℤ◌, refl}
+use Rattle.std.proofs.Common.{Bool, true, false, cond, refl}
 use Rattle.path_plane.proofs.Numbers.{facing_ranges, sum_fits, sum_back, sum_near, within_abs, is_zero, is_not_zero}
 use Rattle.path_plane.proofs.facing.Facing.near_end.Goals as goal
 

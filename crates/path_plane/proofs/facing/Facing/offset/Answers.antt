@@ -1,6 +1,5 @@
-use Rattle.std.proofs.Common.{rules, arith, ◌≡◌, ◌∙◌, ap, sym, ℕ, ℤ, ◌+◌, ◌-◌, ◌<◌, ◌≤◌, FitsSigned, w64, to_z, of_z, Some, length, unsigned_abs}
-use Rattle.std.proofs.lemmas.Int.{to_z-of_z}
-use Rattle.std.proofs.Common.{subst, List, ◌∷◌, suc, zero, refl, Option, inl, inr}
+use Rattle.std.proofs.Common.{arith, ◌≡◌, ◌∙◌, ap, sym, ℕ, ◌+◌, ◌-◌, ◌<◌, Some, length, unsigned_abs}
+use Rattle.std.proofs.Common.{subst, List, ◌∷◌, suc, zero, refl}
 use Rattle.std.specs.Prelude.{slice_get}
 use Rattle.std.specs.List.{enumerate_from}
 use Rattle.std.proofs.lemmas.List.FromFn.{length-enumerate_from, get_or-enumerate_from}

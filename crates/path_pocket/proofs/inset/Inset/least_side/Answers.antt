@@ -1,5 +1,4 @@
-use Rattle.std.proofs.Common.{rules, arith, ◌≡◌, ◌∙◌, ap, sym, refl, ℕ, ℤ, suc, pos, ◌+◌, ◌-◌, ◌*◌, ◌<◌, ◌≤◌, ◌-ℤ◌, ◌+ℤ◌, min, FitsSigned, w64, to_z, of_z, Some, List, [], ◌∷◌, ◌++◌, take, length, unsigned_abs}
-use Rattle.std.proofs.lemmas.Int.{to_z-of_z}
+use Rattle.std.proofs.Common.{rules, ◌∙◌, ap, ℕ, ◌-ℤ◌, min, FitsSigned, w64, unsigned_abs}
 use Rattle.path_pocket.proofs.Numbers.{inset_ranges, side_fits, side_back}
 use Rattle.path_pocket.proofs.inset.Inset.least_side.Goals as goal
 

@@ -1,6 +1,4 @@
-use Rattle.std.proofs.Common.{rules, arith, ◌≡◌, ◌∙◌, ap, sym, refl, ℕ, ℤ, suc, pos, ◌+◌, ◌-◌, ◌*◌, ◌<◌, ◌≤◌, ◌-ℤ◌, ◌+ℤ◌, min, FitsSigned, w64, to_z, of_z, Some, List, [], ◌∷◌, ◌++◌, take, length, unsigned_abs}
-use Rattle.std.proofs.lemmas.Int.{to_z-of_z}
-use Rattle.std.specs.Prelude.{IsTrue}
+use Rattle.std.proofs.Common.{rules, ◌≡◌, ◌∙◌, ap, refl, ℕ, ℤ, pos, ◌*◌, ◌≤◌, ◌-ℤ◌, ◌+ℤ◌, FitsSigned, w64, unsigned_abs}
 use Rattle.path_blocks.specs.PathPocket.{Rectangle, innermost}
 use Rattle.path_pocket.specs.declared.inset.Inset.{Inset}
 use Rattle.path_pocket.specs.Inset.{rectangle_of}
