@@ -8,6 +8,8 @@ import re
 from fractions import Fraction
 from pathlib import Path
 
+import runs
+
 FORMATS = Path(__file__).resolve().parent.parent / "docs" / "FORMATS.md"
 
 MOST_BYTES = 16_777_216
@@ -24,7 +26,7 @@ MOST_NODES = 65_535
 MOST_EXPRESSION = 1_000
 MOST_CHANNELS = 8
 
-DONE, RUN_LIMIT, BAD_WORDS, PROJECT_REFUSED, READ_FAULT = 0, 2, 3, 4, 7
+DONE, BLOCKED, RUN_LIMIT, BAD_WORDS, PROJECT_REFUSED, SCRIPT_REFUSED, READ_FAULT = 0, 1, 2, 3, 4, 5, 7
 
 
 class Refused(Exception):
@@ -617,9 +619,9 @@ class Tree:
         """The numbers of the workingsteps, in preorder."""
         return [number for number, code in self.numbers.items() if code == WORKINGSTEP]
 
-    def is_built(self):
-        """Whether the main workplan has nothing in it but workingsteps, so that `replay` runs it today."""
-        return all(self.store[number].code == WORKINGSTEP for number in parts_of(self.main))
+    def root(self):
+        """The tree as a run goes through it."""
+        return runs.nodes_of(self.store, self.main, parts_of, channel_of, self.channels)
 
 
 # ---- The definition of a workingstep. ----
@@ -964,18 +966,27 @@ def accepted(data):
     return tree, {number: defined[number] for number in tree.steps()}
 
 
-def run(steps, limit):
-    entries, limited = [], False
-    for number, found in steps.items():
-        if len(entries) > limit:
-            break
-        entries.append(f"D {number} 0")
-        entries += [f"B {number} {k} {block}" for k, block in enumerate(path(found))]
-        entries.append(f"E {number}")
-    if len(entries) > limit:
-        entries, limited = entries[:limit], True
-    last = f"end {'limit' if limited else 'done'} {len(entries)}"
-    return RUN_LIMIT if limited else DONE, "".join(line + "\n" for line in ["STEPNC-LOG 1"] + entries + [last])
+SCHEDULE = re.compile(rb"[0-7 \t\r\n]*")
+
+
+def channels_of(data):
+    """The channels that a schedule gives a turn each; raises its refusal."""
+    if len(data) > MOST_BYTES:
+        raise Refused("TooLong")
+    place = SCHEDULE.match(data).end()
+    if place < len(data):
+        raise Refused("Schedule", place)
+    return [byte - 48 for byte in data if byte >= 48]
+
+
+ENDINGS = {runs.DONE: (DONE, "done"), runs.BLOCKED: (BLOCKED, "blocked"), runs.RUN_LIMIT: (RUN_LIMIT, "limit")}
+
+
+def run(tree, steps, schedule, limit):
+    """Status and log of a run under a schedule of channels."""
+    entries, ending = runs.replay(tree.store, tree.root(), lambda number: path(steps[number]), schedule, limit)
+    status, word = ENDINGS[ending]
+    return status, "".join(line + "\n" for line in ["STEPNC-LOG 1"] + entries + [f"end {word} {len(entries)}"])
 
 
 NUMBER_WORD = re.compile(r"[1-9][0-9]*")
@@ -998,7 +1009,7 @@ def is_file_name(word):
 
 
 LINES = [
-    [lambda word: word == "replay", is_file_name, is_hyphen, is_hyphen, is_limit],
+    [lambda word: word == "replay", is_file_name, is_hyphen, is_file_name, is_limit],
     [lambda word: word == "path", is_file_name, is_step_number],
     [lambda word: word == "--help"],
     [lambda word: word == "--version"],
@@ -1024,6 +1035,19 @@ def text_in_formats(command):
     return re.search(rf"^`{command}` writes.*?:\n\n```\n(.*?)```", page, re.S | re.M).group(1)
 
 
+def replay(project, words, read):
+    """Status and log of a run; the schedule is read once the project is accepted."""
+    data = b"" if words[3] == "-" else read(words[3])
+    if data is None:
+        return READ_FAULT, b""
+    try:
+        schedule = channels_of(data)
+    except Refused as refusal:
+        return SCRIPT_REFUSED, refusal.line.encode()
+    status, text = run(*project, schedule, int(words[4]))
+    return status, text.encode()
+
+
 def answer(words, read):
     """Status and standard output for the words behind the program's name; `read` gives a file's bytes, or None."""
     place = bad_place(words)
@@ -1037,10 +1061,7 @@ def answer(words, read):
     try:
         tree, steps = accepted(data)
         if words[0] == "replay":
-            if not tree.is_built():
-                raise Refused("NotBuilt")
-            status, text = run(steps, int(words[4]))
-            return status, text.encode()
+            return replay((tree, steps), words, read)
         if int(words[2]) not in steps:
             raise Refused("NoStep", int(words[2]))
         return DONE, "".join(block + "\n" for block in path(steps[int(words[2])])).encode()

@@ -1,4 +1,5 @@
-"""Random projects of drilled holes, faces and pockets in trees of executables, with random faults and a random layout, for bench/compare.
+"""Random projects of drilled holes, faces and pockets in trees of executables, with random faults and a random layout, and random schedules, for
+bench/compare.
 
 A project is a dict of instances by number. A parameter is a text that is written as it stands, a Ref, a list, or a Typed. All that
 is random comes from one random.Random, so a case is the same for the same seed.
@@ -6,8 +7,8 @@ is random comes from one random.Random, so a case is the same for the same seed.
 
 import random
 
-from oracle import (ASSIGNMENT, CLASS_OF, IF, KEYWORDS, MOST_BYTES, MOST_CHANNELS, MOST_EXPRESSION, MOST_INSTANCES, MOST_NESTING, MOST_NODES, OPAQUE,
-                    TARGETS, USED, WHILE, WORKINGSTEP, WORKPLAN)
+from oracle import (ASSIGNMENT, CLASS_OF, IF, KEYWORDS, MOST_BYTES, MOST_CHANNELS, MOST_ENTRIES, MOST_EXPRESSION, MOST_INSTANCES, MOST_NESTING,
+                    MOST_NODES, OPAQUE, TARGETS, USED, WHILE, WORKINGSTEP, WORKPLAN)
 
 
 class Ref:
@@ -349,10 +350,36 @@ class Project:
             otherwise = parts[1] if len(parts) > 1 else "$"
             return self.add("IF_STATEMENT", {2: condition, 3: parts[0], 4: otherwise}), parts[2:]
         if code == WHILE:
-            return self.add("WHILE_STATEMENT", {2: self.condition_of(r.randrange(3)), 3: parts[0]}), parts[1:]
+            return self.counting(parts[0]) if r.random() < 0.7 else self.add("WHILE_STATEMENT", {2: self.condition_of(r.randrange(3)), 3: parts[0]}), parts[1:]
         if code == WORKPLAN:
             return self.add("WORKPLAN", {2: parts, 3: self.channel() if r.random() < 0.4 else "$"}), []
         return self.add(KEYWORDS[code][0], {2: parts}), []
+
+    def counting(self, body):
+        """A loop that counts on a variable of its own, so that it ends after a few rounds."""
+        r = self.r
+        variable = self.add("NC_VARIABLE", {2: r.choice(["$", self.num(1_000)])})
+        more = self.add("!NC_SUM", {1: variable, 2: self.num(1_000)})
+        count = self.add("ASSIGNMENT", {2: variable, 3: more})
+        body = self.add("WORKPLAN", {2: [body, count] if r.random() < 0.8 else [count, body], 3: "$"})
+        condition = self.add("COMPARISON_LESS", {1: variable, 2: self.num(r.choice([1_000, 2_000, 3_000, 5_000]))})
+        return self.add("WHILE_STATEMENT", {2: condition, 3: body})
+
+    def lanes(self, elements):
+        """A parallel of workplans, each in a channel of its own, that have these elements."""
+        r = self.r
+        parts = [[] for _ in range(r.choice([2, 2, 3, 4]))]
+        for element in elements:
+            r.choice(parts).append(element)
+        return self.add("PARALLEL", {2: [self.add("WORKPLAN", {2: part, 3: self.add("CHANNEL", {})}) for part in parts]})
+
+    def meeting(self, elements):
+        """Marks and waits for them among the elements; a run mostly comes to an end."""
+        r = self.r
+        for _ in range(r.choice([1, 1, 2])):
+            mark = self.add("SET_MARK", {})
+            elements.insert(r.randint(0, len(elements) // 2), mark)
+            elements.insert(r.randint(len(elements) // 2, len(elements)), self.add("WAIT_FOR_MARK", {2: mark}))
 
     def nested(self, elements):
         """The elements of a main workplan that has these, and more, at any depth."""
@@ -366,7 +393,9 @@ class Project:
             end = begin + r.randint(1, 3)
             executable, rest = self.around(elements[begin:end])
             elements[begin:end] = [executable] + rest
-        return elements
+        if r.random() < 0.4:
+            self.meeting(elements)
+        return [self.lanes(elements)] if r.random() < 0.4 else elements
 
     # Instances that nobody runs.
 
@@ -559,7 +588,7 @@ def put_in(project, *executables):
 
 
 def another_kind(project):
-    """NotBuilt of replay"""
+    """No fault: one executable more"""
     put_in(project, project.leaf())
 
 
@@ -1153,35 +1182,69 @@ def random_file(r):
     if r.random() < 0.001:
         return many_instances(r), [], False
     project = random_project(r)
-    for _ in range(r.choices([0, 1, 2, 3], [35, 35, 20, 10])[0]):
+    for _ in range(r.choices([0, 1, 2, 3], [50, 30, 13, 7])[0]):
         chosen(r, SAID_FAULTS)(project)
     tokens = tokens_of(project)
-    for _ in range(r.choices([0, 1, 2], [78, 16, 6])[0]):
+    for _ in range(r.choices([0, 1, 2], [82, 13, 5])[0]):
         chosen(r, TOKEN_FAULTS)(r, tokens)
     data = laid_out(r, tokens)
-    for _ in range(r.choices([0, 1, 2, 5], [88, 7, 3, 2])[0]):
+    for _ in range(r.choices([0, 1, 2, 5], [90, 6, 2, 2])[0]):
         data = mutated(r, data)
     if r.random() < 0.008 and b";" in data:
         data = filled_up(r, data)
     return data, project.steps, project.is_nested
 
 
-def random_words(r, file_name, steps, is_nested):
+# ---- Schedules. ----
+
+
+def digits(r):
+    """Turns of some of the channels, in a row or one by one."""
+    channels = r.choice(["0", "01", "01", "012", "10", "0123", "01234567"])
+    turns = []
+    for _ in range(r.choice([1, 5, 20, 60, 200])):
+        turns += [r.choice(channels)] * r.choice([1, 1, 1, 2, 7])
+    return turns
+
+
+def random_schedule(r):
+    """The bytes of a schedule, or None where there is none: mostly a right one."""
+    if r.random() < 0.02:
+        return None
+    if r.random() < 0.004:  # about as large as one may be
+        return r.choice([b" ", b"\n", b"7", b"0", b"x"]) * (MOST_BYTES + r.choice([-1, 0, 1, 1]))
+    pieces = digits(r) if r.random() < 0.95 else []
+    for _ in range(r.choice([0, 0, 1, 5])):
+        pieces.insert(r.randint(0, len(pieces)), r.choice([" ", "\n", "\t", "\r\n", "   "]))
+    for _ in range(r.choice([0] * 18 + [1, 2])):
+        pieces.insert(r.randint(0, len(pieces)), r.choice(["8", "9", "p", "x", "-", "\0", ",", "\x0b", "\x0c", "\xa0", "\xff", "/", "#"]))
+    return "".join(pieces).encode("latin-1")
+
+
+def random_limit(r, is_nested):
+    """A limit. Trees may have loops without an end, of which the greatest limit would take minutes here; bench/hostile has such."""
+    small = [1, r.randint(1, 30), r.randint(1, 300)]
+    if is_nested:
+        return r.choice(small + [r.randint(1, 3_000), r.randint(1, 3_000), 20_000]) if r.random() < 0.997 else 100_000
+    return r.choice(small + [r.randint(1, 40_000), MOST_ENTRIES, MOST_ENTRIES])
+
+
+def random_words(r, file_name, schedule_name, steps, is_nested):
     """The words of a command for this file; a few of them are faulty."""
     if r.random() < 0.02:
         pool = ["replay", "path", "--help", "--version", "-", "", "0", "1", "007", "2000000", "2000001", "2147483647", "2147483648", "run",
-                file_name, "X", "\udcff", "+5", "5 ", "-1", "99999999999"]
-        begin = r.choice([[], ["replay", file_name], ["replay", file_name, "-", "-"], ["path", file_name], ["--help"]])
+                file_name, schedule_name, "X", "\udcff", "+5", "5 ", "-1", "99999999999"]
+        begin = r.choice([[], ["replay", file_name], ["replay", file_name, "-", "-"], ["replay", file_name, "-"], ["path", file_name], ["--help"]])
         return begin + [r.choice(pool) for _ in range(r.randrange(4))]
-    if r.random() < (0.3 if is_nested else 0.7):  # of most trees `replay` says only that they aren't built
-        limit = r.choice([1, r.randint(1, 30), r.randint(1, 300), r.randint(1, 40_000), 2_000_000, 2_000_000])
-        return ["replay", file_name, "-", "-", str(limit)]
+    if r.random() < 0.8:
+        return ["replay", file_name, "-", schedule_name if r.random() < 0.7 else "-", str(random_limit(r, is_nested))]
     number = r.choice(steps) if steps and r.random() < 0.8 else r.choice([1, 2, r.randint(1, 200), 2_147_483_647])
     return ["path", file_name, str(number)]
 
 
-def random_case(seed, index, file_name):
-    """Case `index` of a seed: the file's bytes and the words of the command."""
+def random_case(seed, index, file_name, schedule_name):
+    """Case `index` of a seed: the bytes of the project and of the schedule, None where there is no schedule, and the words of the command."""
     r = random.Random(f"{seed} {index}")
     data, steps, is_nested = random_file(r)
-    return data, random_words(r, file_name, steps, is_nested)
+    words = random_words(r, file_name, schedule_name, steps, is_nested)
+    return data, random_schedule(r), words

@@ -1,15 +1,20 @@
 """Worked examples for the second implementation, worked out by hand: bench/compare --self-test.
 
-Beside those typed here and in worked_trees.py, every command with its output in README.md, docs/FORMATS.md and examples/README.md is compared, and so
+Beside those typed here, in worked_trees.py and in worked_runs.py, every command with its output in README.md, docs/FORMATS.md and examples/README.md is compared, and so
 are the rows of docs/FORMATS.md that change an instance or two of the example of a hole.
 """
 
+import random
 import re
 import subprocess
 import sys
 from pathlib import Path
 
 import oracle
+import projects
+import runs
+import whole_lists
+import worked_runs
 import worked_trees
 
 ROOT = Path(__file__).resolve().parent.parent
@@ -34,6 +39,7 @@ def changed(name, instances, without=()):
 
 
 REPLAY, PATH = ["replay", "P", "-", "-", "1000"], ["path", "P", "10"]
+CROSS_CHECKED = 300  # random files of which those that are accepted and nested are run in whole lists too
 HOLE, FACE, POCKET = "drilled_hole", "planar_face", "rectangular_pocket"
 
 # An example, its changes, and the one line that replay answers.
@@ -140,7 +146,7 @@ TEXTS = [
 WORDS = [
     ([], 0), (["fly"], 0), (["\udcff"], 0), (["replay"], 1), (["replay", "", "-", "-", "1"], 1), (["replay", "P", "-", "-"], 4),
     (["replay", "P", "-", "-", "007"], 4), (["replay", "P", "-", "-", "0"], 4), (["replay", "P", "-", "-", "2000001"], 4),
-    (["replay", "P", "X", "-", "100"], 2), (["replay", "P", "-", "X", "100"], 3), (["replay", "P", "-", "-", "1", "more"], 5),
+    (["replay", "P", "X", "-", "100"], 2), (["replay", "P", "-", "", "100"], 3), (["replay", "P", "-", "X"], 4), (["replay", "P", "-", "-", "1", "more"], 5),
     (["path", "P"], 2), (["path", "P", "010"], 2), (["path", "P", "2147483648"], 2), (["path", "P", "10", "20"], 3), (["--help", "me"], 1),
     (["replay", "P", "-", "-", "+5"], 4),
 ]
@@ -194,6 +200,10 @@ def ask(words, data):
     return oracle.answer(words, lambda name: data)
 
 
+def ask_files(words, files):
+    return oracle.answer(words, files.get)
+
+
 def refusal(said, status=oracle.PROJECT_REFUSED):
     return status, f"refused {said}\n".encode()
 
@@ -210,13 +220,21 @@ def cases():
     for instances, said in worked_trees.REFUSED:
         data = changed(HOLE, instances)
         given = ask(REPLAY, data)
+        if said == worked_trees.RUNS:
+            yield short(instances), given[0] in (0, 1, 2), True
+            continue
         yield short(instances), given if said else given[0], refusal(said) if said else 0
-        if said and said != "NotBuilt" and len(data) < 100_000:  # path has the same faults before it looks for its step
+        if said and len(data) < 100_000:  # path has the same faults before it looks for its step
             yield "path of " + short(instances), ask(PATH, data), refusal(said)
     whole = ask(PATH, example(HOLE))
     for instances, number, is_step in worked_trees.STEPS:
         given = ask(["path", "P", str(number)], changed(HOLE, instances))
         yield f"path {number} of {short(instances)}", given, whole if is_step else refusal(f"NoStep {number}")
+    for instances, schedule, limit, log in worked_runs.RUNS:
+        given = ask_files(["replay", "P", "-", "S", str(limit)], {"P": changed(HOLE, instances), "S": schedule.encode("latin-1")})
+        yield f"a run of {short(instances)} by {schedule!r} up to {limit}", given, worked_runs.answer_of(log)
+    yield from schedule_cases()
+    yield from in_whole_lists()
     for text, said in TEXTS:
         yield repr(text), ask(REPLAY, text), refusal(said) if said else (0, DONE_EMPTY.encode())
     for words, place in WORDS:
@@ -246,6 +264,38 @@ def cases():
     yield from rows_of_formats()
 
 
+def schedule_cases():
+    """Schedules that are refused or can't be read, and what hides them."""
+    words, hole = ["replay", "P", "-", "S", "8"], changed(HOLE, [])
+    for text, said in worked_runs.SCHEDULES:
+        yield repr(text), ask_files(words, {"P": hole, "S": text.encode("latin-1")}), refusal(said, oracle.SCRIPT_REFUSED)
+    for byte in range(256):
+        allowed = byte in b"01234567 \t\r\n"
+        wanted = worked_runs.answer_of("step 10 / end done 8") if allowed else refusal("Schedule 1", oracle.SCRIPT_REFUSED)
+        yield f"a schedule with byte {byte}", ask_files(words, {"P": hole, "S": b"0" + bytes([byte])}), wanted
+    yield "no schedule", ask_files(words, {"P": hole}), (oracle.READ_FAULT, b"")
+    yield "a schedule too long", ask_files(words, {"P": hole, "S": b" " * (oracle.MOST_BYTES + 1)}), refusal("TooLong", oracle.SCRIPT_REFUSED)
+    yield "the longest schedule", ask_files(words, {"P": hole, "S": b" " * oracle.MOST_BYTES})[0], 0
+    for schedule in ({}, {"S": b"x"}):
+        yield "a refused project and a bad schedule", ask_files(words, {"P": b"", **schedule}), refusal("Syntax 0")
+
+
+def in_whole_lists():
+    """Runs of random projects, by the frames of `runs` and in whole lists."""
+    for number in range(CROSS_CHECKED):
+        r = random.Random(f"whole lists {number}")
+        data, _, is_nested = projects.random_file(r)
+        try:
+            tree, steps = oracle.accepted(data)
+        except oracle.Refused:
+            continue
+        if not is_nested or len(tree.numbers) > 60:
+            continue
+        schedule, limit = [r.randrange(4) for _ in range(r.choice([0, 10, 60]))], r.choice([1, 20, 100])
+        given, wanted = (way(tree.store, tree.root(), lambda step: oracle.path(steps[step])[:4], schedule, limit) for way in (runs.replay, whole_lists.replay))
+        yield f"random project {number} in whole lists", given, wanted
+
+
 def table_of_formats():
     """The table of classes in docs/FORMATS.md, in the form of oracle.TABLE."""
     rows = re.findall(r"^\| (\d+) \| ([A-Z!][^|a-z]*) \| *([^|]*?) *\|$", oracle.FORMATS.read_text(), re.M)
@@ -258,12 +308,15 @@ def shown_cases():
         for block in re.findall(r"```\n(.*?)```", (ROOT / page).read_text(), re.S):
             for command, output in re.findall(r"^\$ \./stepnc (.*)\n((?:(?!\$ ).*\n)*)", block, re.M):
                 front = re.fullmatch(r"(.*) \| head -(\d+)", command)
-                words = (front.group(1) if front else command).split()
-                if any(mark in command for mark in "<>") or "| " in command and not front:
+                without_blocks = re.fullmatch(r"(.*) \| grep -v \^B", command)
+                words = ((front or without_blocks).group(1) if front or without_blocks else command).split()
+                if any(mark in command for mark in "<>") or "| " in command and not (front or without_blocks):
                     continue
                 text = oracle.answer(words, lambda name: (ROOT / name).read_bytes() if (ROOT / name).is_file() else None)[1].decode()
                 if front:
                     text = "".join(text.splitlines(True)[:int(front.group(2))])
+                if without_blocks:
+                    text = "".join(line for line in text.splitlines(True) if not line.startswith("B"))
                 told = "".join(line for line in output.splitlines(True) if not line.startswith("stepnc: "))  # those go to standard error
                 if output:
                     yield f"{page}: {command}", text, told

@@ -1,8 +1,11 @@
 """Trees of executables with the answers worked out by hand, for worked.py.
 
 A row is a list of instances, which are put into examples/drilled_hole.stp in place of those of their numbers or added at its end, and the
-one line that `replay` answers behind `refused`, or None where the project runs. Workingstep 10 is the example's own.
+one line that `replay` answers behind `refused`, None where the project runs to its end, or RUNS where it runs, to whichever end. Workingstep 10 is the
+example's own.
 """
+
+RUNS = "runs"
 
 
 def main_of(*elements, channel="$"):
@@ -64,24 +67,24 @@ SHARED = [
     # Preorder goes down before it goes on: 2, 3, 5, 7, 10, and 7 again, before 10 again.
     ([main_of(3, 10), "#3=PARALLEL('',(#5,#7));", "#5=WORKPLAN('',(#7),$);", "#7=SELECTIVE('',(#10));"], "Shared 7"),
     # Marks, variables, channels, conditions and operations may be shared, and what isn't in the tree may be anything.
-    ([main_of(3, 5, 7), "#3=WAIT_FOR_MARK('',#7);", "#5=WAIT_FOR_MARK('',#7);", "#7=SET_MARK('');"], "NotBuilt"),
+    ([main_of(3, 5, 7), "#3=WAIT_FOR_MARK('',#7);", "#5=WAIT_FOR_MARK('',#7);", "#7=SET_MARK('');"], RUNS),
     ([main_of(10), "#3=PARALLEL('',(#10,#10));", "#5=WORKPLAN('',(#5),$);"], None),
-    ([main_of(3, 5), "#3=WHILE_STATEMENT('',#4,#6);", "#5=WHILE_STATEMENT('',#4,#7);", TRUE, MARK, "#7=SET_MARK('');"], "NotBuilt"),
+    ([main_of(3, 5), "#3=WHILE_STATEMENT('',#4,#6);", "#5=WHILE_STATEMENT('',#4,#7);", TRUE, MARK, "#7=SET_MARK('');"], RUNS),
     # A mark that nothing sets is no part of the tree.
-    ([main_of(3), "#3=WAIT_FOR_MARK('',#6);", MARK], "NotBuilt"),
+    ([main_of(3), "#3=WAIT_FOR_MARK('',#6);", MARK], RUNS),
 ]
 
 TOO_DEEP = [
     # 100 is level 2, so 162 is level 64 and 163 level 65.
-    ([main_of(100), chain(62), "#162=WORKPLAN('',(),$);"], "NotBuilt"),
-    ([main_of(100), chain(62), "#162=SET_MARK('');"], "NotBuilt"),
+    ([main_of(100), chain(62), "#162=WORKPLAN('',(),$);"], RUNS),
+    ([main_of(100), chain(62), "#162=SET_MARK('');"], RUNS),
     ([main_of(100), chain(63), "#163=WORKPLAN('',(),$);"], "TreeTooDeep 163"),
     ([main_of(100), chain(63), "#163=SET_MARK('');"], "TreeTooDeep 163"),
-    ([main_of(100), chain(62, "PARALLEL('',(#@@))"), "#162=MACHINING_WORKINGSTEP('W',#50,#20,#30);"], "NotBuilt"),
+    ([main_of(100), chain(62, "PARALLEL('',(#@@))"), "#162=MACHINING_WORKINGSTEP('W',#50,#20,#30);"], RUNS),
     ([main_of(100), chain(63, "SELECTIVE('',(#@@))"), "#163=MACHINING_WORKINGSTEP('W',#50,#20,#30);"], "TreeTooDeep 163"),
-    ([main_of(100), chain(62, "IF_STATEMENT('',#4,#@@,$)"), "#162=SET_MARK('');", TRUE], "NotBuilt"),
+    ([main_of(100), chain(62, "IF_STATEMENT('',#4,#@@,$)"), "#162=SET_MARK('');", TRUE], RUNS),
     ([main_of(100), chain(63, "IF_STATEMENT('',#4,#@@,$)"), "#163=SET_MARK('');", TRUE], "TreeTooDeep 163"),
-    ([main_of(100), chain(62, "WHILE_STATEMENT('',#4,#@@)"), "#162=SET_MARK('');", TRUE], "NotBuilt"),
+    ([main_of(100), chain(62, "WHILE_STATEMENT('',#4,#@@)"), "#162=SET_MARK('');", TRUE], RUNS),
     ([main_of(100), chain(63, "WHILE_STATEMENT('',#4,#@@)"), "#163=SET_MARK('');", TRUE], "TreeTooDeep 163"),
     # The branch that isn't taken first is as deep as the other one.
     ([main_of(100), chain(62), "#162=IF_STATEMENT('',#4,#6,$);", TRUE, MARK], "TreeTooDeep 6"),
@@ -96,53 +99,53 @@ EXPRESSIONS = [
     ([main_of(3), IF, "#4=XOR_EXPRESSION(#5,#7);", "#5=OR_EXPRESSION(());", "#7=OR_EXPRESSION((#5,#4));", MARK], "ExprTooBig 3"),
     ([main_of(3), "#3=ASSIGNMENT('',#4,#5);", "#4=NC_VARIABLE('V',$);", "#5=!NC_PRODUCT(2.,#5);"], "ExprTooBig 3"),
     # 999 times NOT and the OR of none are 1,000 nodes.
-    ([main_of(3), IF, nots(999), MARK], "NotBuilt"),
+    ([main_of(3), IF, nots(999), MARK], RUNS),
     ([main_of(3), IF, nots(1_000), MARK], "ExprTooBig 3"),
-    ([main_of(3), WHILE, nots(999), MARK], "NotBuilt"),
+    ([main_of(3), WHILE, nots(999), MARK], RUNS),
     ([main_of(3), WHILE, nots(1_000), MARK], "ExprTooBig 3"),
     # The AND and 999 conditions of one node each; what is shared counts wherever it stands.
-    ([main_of(3), IF, "#4=AND_EXPRESSION((" + ",".join(["#5"] * 999) + "));", "#5=OR_EXPRESSION(());", MARK], "NotBuilt"),
+    ([main_of(3), IF, "#4=AND_EXPRESSION((" + ",".join(["#5"] * 999) + "));", "#5=OR_EXPRESSION(());", MARK], RUNS),
     ([main_of(3), IF, "#4=AND_EXPRESSION((" + ",".join(["#5"] * 1_000) + "));", "#5=OR_EXPRESSION(());", MARK], "ExprTooBig 3"),
     # A comparison of three nodes 333 times, and the OR around them: 1,000. A NOT more: 1,001.
-    ([main_of(3), IF, "#4=OR_EXPRESSION((" + ",".join(["#5"] * 333) + "));", "#5=COMPARISON_LESS(1.,2.);", MARK], "NotBuilt"),
+    ([main_of(3), IF, "#4=OR_EXPRESSION((" + ",".join(["#5"] * 333) + "));", "#5=COMPARISON_LESS(1.,2.);", MARK], RUNS),
     ([main_of(3), IF, "#4=NOT_EXPRESSION(#5);", "#5=OR_EXPRESSION((" + ",".join(["#7"] * 333) + "));", "#7=COMPARISON_LESS(#8,#8);",
       "#8=NC_VARIABLE('V',2.);", MARK], "ExprTooBig 3"),
     # Sums of 511, 255, 127, 63 and 31 nodes; 1 + 511 + (1 + 255 + (1 + 127 + (1 + 63 + (1 + 31 + 7)))) = 999, and with 9 in place of 7 1,001.
     ([main_of(3), "#3=ASSIGNMENT('',#5,#6);", "#5=NC_VARIABLE('V',$);", doubled(8), "#6=!NC_SUM(#508,#11);", "#11=!NC_DIFFERENCE(#507,#12);",
-      "#12=!NC_PRODUCT(#506,#13);", "#13=!NC_SUM(#505,#14);", "#14=!NC_SUM(#504,#502);"], "NotBuilt"),
+      "#12=!NC_PRODUCT(#506,#13);", "#13=!NC_SUM(#505,#14);", "#14=!NC_SUM(#504,#502);"], RUNS),
     ([main_of(3), "#3=ASSIGNMENT('',#5,#6);", "#5=NC_VARIABLE('V',$);", doubled(8), "#6=!NC_SUM(#508,#11);", "#11=!NC_DIFFERENCE(#507,#12);",
       "#12=!NC_PRODUCT(#506,#13);", "#13=!NC_SUM(#505,#14);", "#14=!NC_SUM(#504,#15);", "#15=!NC_SUM(#502,#5);"], "ExprTooBig 3"),
     ([main_of(3), IF, "#4=COMPARISON_EQUAL(#508,#508);", doubled(8), MARK], "ExprTooBig 3"),
-    ([main_of(3), IF, "#4=COMPARISON_EQUAL(#507,#508);", doubled(8), MARK], "NotBuilt"),
+    ([main_of(3), IF, "#4=COMPARISON_EQUAL(#507,#508);", doubled(8), MARK], RUNS),
     ([main_of(3), IF, "#4=COMPARISON_EQUAL(#560,1.);", doubled(60), MARK], "ExprTooBig 3"),
     # An expression that nobody works out may be of any size, and a note has none.
     ([main_of(10), WHILE, ENDLESS, MARK], None),
-    ([main_of(3), "#3=DISPLAY_MESSAGE('',#4);", ENDLESS], "NotBuilt"),
+    ([main_of(3), "#3=DISPLAY_MESSAGE('',#4);", ENDLESS], RUNS),
 ]
 
 LOOPS = [numbered(300, 65, "WHILE_STATEMENT('',#4,#90@)"), nots(999), numbered(90_300, 65)]
 NODES = [
-    (main_with_notes([], 65_534), "NotBuilt"),
+    (main_with_notes([], 65_534), RUNS),
     (main_with_notes([], 65_535), "TooManyNodes"),
     # The main workplan and 32,767 assignments of a number: 1 + 2 * 32,767 = 65,535. The variable that is assigned is no node.
-    ([main_of(*range(1001, 33_768)), "#3=NC_VARIABLE('V',$);", numbered(1001, 32_767, "ASSIGNMENT('',#3,1.)")], "NotBuilt"),
+    ([main_of(*range(1001, 33_768)), "#3=NC_VARIABLE('V',$);", numbered(1001, 32_767, "ASSIGNMENT('',#3,1.)")], RUNS),
     ([main_of(*range(1001, 33_768)), "#3=NC_VARIABLE('V',$);", numbered(1001, 32_766, "ASSIGNMENT('',#3,#3)"),
       "#33767=ASSIGNMENT('',#3,#4);", "#4=!NC_SUM(#3,#3);"], "TooManyNodes"),
     # The main workplan, and 65 loops that share a condition of 1,000 nodes and have a body of one: 1 + 65 * 1,002 = 65,131.
-    (main_with_notes(range(300, 365), 404) + LOOPS, "NotBuilt"),
+    (main_with_notes(range(300, 365), 404) + LOOPS, RUNS),
     (main_with_notes(range(300, 365), 405) + LOOPS, "TooManyNodes"),
     (main_with_notes([], 405, *range(300, 365)) + LOOPS, "TooManyNodes"),
 ]
 
 CHANNELS = [
-    ([main_of(*EIGHT), *plans_with_channels(8)], "NotBuilt"),
+    ([main_of(*EIGHT), *plans_with_channels(8)], RUNS),
     ([main_of(*EIGHT, 308), *plans_with_channels(9)], "TooManyChannels"),
     ([main_of(10, channel="#3"), "#3=CHANNEL('0');"], None),
-    ([main_of(*EIGHT, channel="#407"), *plans_with_channels(8)], "NotBuilt"),
+    ([main_of(*EIGHT, channel="#407"), *plans_with_channels(8)], RUNS),
     ([main_of(*EIGHT, channel="#408"), *plans_with_channels(9)], "TooManyChannels"),
-    ([main_of(*EIGHT, 9), *plans_with_channels(8), "#9=WORKPLAN('',(),#400);"], "NotBuilt"),
+    ([main_of(*EIGHT, 9), *plans_with_channels(8), "#9=WORKPLAN('',(),#400);"], RUNS),
     # A channel that no workplan of the tree names isn't one of the eight.
-    ([main_of(*EIGHT), *plans_with_channels(9)], "NotBuilt"),
+    ([main_of(*EIGHT), *plans_with_channels(9)], RUNS),
 ]
 
 ORDER = [
@@ -159,7 +162,7 @@ ORDER = [
     (main_with_notes([], 64_533, 3) + [WHILE, ENDLESS, MARK], "ExprTooBig 3"),
     (main_with_notes([], 64_534, 3) + [WHILE, ENDLESS, MARK], "TooManyNodes"),
     (main_with_notes([], 64_533, 3) + [WHILE, nots(999), MARK], "TooManyNodes"),  # by the loop's body
-    (main_with_notes([], 64_532, 3) + [WHILE, nots(999), MARK], "NotBuilt"),
+    (main_with_notes([], 64_532, 3) + [WHILE, nots(999), MARK], RUNS),
     (main_with_notes(EIGHT, 65_525, 308) + plans_with_channels(9), "TooManyChannels"),
     (main_with_notes(EIGHT, 65_526, 308) + plans_with_channels(9), "TooManyNodes"),
     # Of several executables the first in preorder, whatever their faults.
@@ -185,35 +188,35 @@ ORDER = [
 
 BELOW = "#3=PARALLEL('',(#5));"
 DEFINITIONS = [
-    # Of the workingsteps of the whole tree the least number decides, and what is judged stands before what isn't built.
+    # Of the workingsteps of the whole tree the least number decides, on whatever level.
     ([main_of(3), BELOW, "#5=WORKPLAN('',(#10),$);", HOLE_WITHOUT_PLACE], "Definition 10 Missing 20 4"),
     ([main_of(10, 3), BELOW, "#5=WORKPLAN('',(#9),$);", STEP_9, HOLE_WITHOUT_PLACE], "Definition 9 Missing 9 2"),
     ([main_of(3, 9), BELOW, "#5=WORKPLAN('',(#10),$);", STEP_9], "Definition 9 Missing 9 2"),
     ([main_of(3), "#3=IF_STATEMENT('',#4,#6,#10);", TRUE, MARK, HOLE_WITHOUT_PLACE], "Definition 10 Missing 20 4"),
     ([main_of(3), "#3=WHILE_STATEMENT('',#4,#10);", TRUE, HOLE_WITHOUT_PLACE], "Definition 10 Missing 20 4"),
     ([main_of(10), BELOW, "#5=WORKPLAN('',(#9),$);", STEP_9], None),
-    ([main_of(3), BELOW, "#5=WORKPLAN('',(),$);", STEP_9, HOLE_WITHOUT_PLACE], "NotBuilt"),
+    ([main_of(3), BELOW, "#5=WORKPLAN('',(),$);", STEP_9, HOLE_WITHOUT_PLACE], RUNS),
 ]
 
-NOT_BUILT = [
-    ([main_of(3), "#3=WORKPLAN('',(#10),$);"], "NotBuilt"),
-    ([main_of(3), "#3=WORKPLAN('',(),$);"], "NotBuilt"),
-    ([main_of(3), "#3=PARALLEL('',(#10));"], "NotBuilt"),
-    ([main_of(3), "#3=NON_SEQUENTIAL('',(#10));"], "NotBuilt"),
-    ([main_of(3), "#3=SELECTIVE('',(#10));"], "NotBuilt"),
-    ([main_of(3), "#3=IF_STATEMENT('',#4,#10,$);", TRUE], "NotBuilt"),
-    ([main_of(3), "#3=WHILE_STATEMENT('',#4,#10);", TRUE], "NotBuilt"),
-    ([main_of(10, 3), "#3=ASSIGNMENT('',#4,1.);", "#4=NC_VARIABLE('V',$);"], "NotBuilt"),
-    ([main_of(10, 6), MARK], "NotBuilt"),
-    ([main_of(10, 3, 6), MARK, "#3=WAIT_FOR_MARK('',#6);"], "NotBuilt"),
-    *[([main_of(10, 3), f"#3={keyword}('');"], "NotBuilt") for keyword in
+OF_EACH_KIND = [
+    ([main_of(3), "#3=WORKPLAN('',(#10),$);"], RUNS),
+    ([main_of(3), "#3=WORKPLAN('',(),$);"], RUNS),
+    ([main_of(3), "#3=PARALLEL('',(#10));"], RUNS),
+    ([main_of(3), "#3=NON_SEQUENTIAL('',(#10));"], RUNS),
+    ([main_of(3), "#3=SELECTIVE('',(#10));"], RUNS),
+    ([main_of(3), "#3=IF_STATEMENT('',#4,#10,$);", TRUE], RUNS),
+    ([main_of(3), "#3=WHILE_STATEMENT('',#4,#10);", TRUE], RUNS),
+    ([main_of(10, 3), "#3=ASSIGNMENT('',#4,1.);", "#4=NC_VARIABLE('V',$);"], RUNS),
+    ([main_of(10, 6), MARK], RUNS),
+    ([main_of(10, 3, 6), MARK, "#3=WAIT_FOR_MARK('',#6);"], RUNS),
+    *[([main_of(10, 3), f"#3={keyword}('');"], RUNS) for keyword in
       ["DISPLAY_MESSAGE", "OPTIONAL_STOP", "PROGRAM_STOP", "LOAD_TOOL", "UNLOAD_TOOL", "INDEX_TABLE", "INDEX_PALLET", "EXCHANGE_PALLET"]],
     ([main_of(10)], None),
     ([main_of(10, 9), "#9=MACHINING_WORKINGSTEP('W',#50,#20,#30);"], None),
     ([main_of(9, 10, channel="#3"), "#9=MACHINING_WORKINGSTEP('W',#50,#20,#30);", "#3=CHANNEL('0');"], None),
 ]
 
-REFUSED = SHARED + TOO_DEEP + EXPRESSIONS + NODES + CHANNELS + ORDER + DEFINITIONS + NOT_BUILT
+REFUSED = SHARED + TOO_DEEP + EXPRESSIONS + NODES + CHANNELS + ORDER + DEFINITIONS + OF_EACH_KIND
 
 # Trees in which `path` is asked for a number, and whether that is a workingstep of them.
 STEPS = [

@@ -1,4 +1,4 @@
-//! Tests of the crates that all others stand on: nc_base, nc_outside and path_blocks.
+//! Tests of the crates that all others stand on: nc_base, nc_outside, path_blocks and run_schedule.
 #![tactic(auto)]
 
 #[cfg(test)]
@@ -11,3 +11,5 @@ mod expected;
 mod outside;
 #[cfg(test)]
 mod paths;
+#[cfg(test)]
+mod schedules;

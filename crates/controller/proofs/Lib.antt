@@ -3,7 +3,5 @@ pub mod CommandLemmas
 pub mod LawsLemmas
 pub mod AnswersLemmas
 pub mod RefusalLemmas
-pub mod ReplayingLemmas
-pub mod PlainLemmas
-pub mod ShowingLemmas
+pub mod CallsLemmas
 pub mod TopCallsLemmas

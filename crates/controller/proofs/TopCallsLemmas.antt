@@ -1,10 +1,12 @@
 -- What is said is right.
 use Rattle.std.proofs.Common.{◌≡◌, ℕ, List, Option, Result, Ok, Err, refl, sym, subst, inl, inr}
 use Rattle.std.specs.Prelude.{IfSome, false}
+use Rattle.run_log.specs.declared.entry.Entry.{Entry}
+use Rattle.run_log.specs.declared.entry.Ending.{Ending}
 use Rattle.run_log.specs.declared.entry.Ending.TheVariants as endings
 use Rattle.project_read.specs.declared.reason.ProjectReason.{ProjectReason}
 use Rattle.project_read.specs.declared.reason.ProjectReason.TheVariants as reasons
-use Rattle.project_read.specs.Faults.{is_among}
+use Rattle.edit_rules.specs.Faults.{is_among}
 use Rattle.project_read.specs.Holds.{Project, Holds}
 use Rattle.controller.specs.declared.answer.Answer.{Answer}
 use Rattle.controller.specs.declared.answer.Answer.TheVariants as answers
@@ -14,10 +16,10 @@ use Rattle.controller.specs.declared.status.Status.{Status}
 use Rattle.controller.specs.declared.status.Status.TheVariants as statuses
 use Rattle.controller.specs.Words.{IsReplay, IsPath, NamesProject}
 use Rattle.controller.specs.Outside.{Outside}
-use Rattle.controller.specs.Asked.{IsRefused, IsRight}
+use Rattle.controller.specs.Asked.{IsLog, IsRefused, IsRight}
 use Rattle.controller.specs.Answer.{answer_text, answer_status}
 use Rattle.controller.specs.Answered.{Answered}
-use Rattle.controller.specs.ProjectFile.{IsRefusedFile, Replays, Shows, OrStops, IsAnswer, AnswersOrStops, IsPut}
+use Rattle.controller.specs.Calls.{IsRefusedFile, Replays, OrReplayStops, Shows, OrStops, IsAnswer, AnswersOrStops, IsPut}
 
 -- what is refused of a named file is refused for the words
 refused : (ws : List (List ℕ)) (holds : List ℕ → Option (List ℕ)) (name : List ℕ) (reason : ProjectReason) → NamesProject ws name → IsRefusedFile (holds name) reason → IsRefused ws holds reason
@@ -27,29 +29,35 @@ refused ws holds name (reasons.Read fault) named is = record { name = name; name
 refused ws holds name (reasons.Attribute fault) named is = record { name = name; named = named; refused = is.0 }
 refused ws holds name (reasons.Store fault) named is = record { name = name; named = named; refused = is.0 }
 refused ws holds name (reasons.Tree fault) named is = record { name = name; named = named; refused = is.0 }
-refused ws holds name reasons.NotBuilt named is = absurd is.1
 refused ws holds name (reasons.Definition n fault) named is = record { name = name; named = named; refused = is.0 }
 
-not_replayed : (ws : List (List ℕ)) (holds : List ℕ → Option (List ℕ)) (name : List ℕ) (limit : ℕ) (reason : ProjectReason) → IsReplay ws name limit → Replays (holds name) limit (answers.Refused reason) → IsRefused ws holds reason
-not_replayed ws holds name limit reasons.NotBuilt asked is = record { name = name; limit = limit; asked = asked; unbuilt = is }
-not_replayed ws holds name limit reasons.TooLong asked is = refused ws holds name reasons.TooLong (inl (limit, asked)) is
-not_replayed ws holds name limit (reasons.Read fault) asked is = refused ws holds name (reasons.Read fault) (inl (limit, asked)) is
-not_replayed ws holds name limit (reasons.Attribute fault) asked is = refused ws holds name (reasons.Attribute fault) (inl (limit, asked)) is
-not_replayed ws holds name limit (reasons.Store fault) asked is = refused ws holds name (reasons.Store fault) (inl (limit, asked)) is
-not_replayed ws holds name limit (reasons.Tree fault) asked is = refused ws holds name (reasons.Tree fault) (inl (limit, asked)) is
-not_replayed ws holds name limit (reasons.Definition n fault) asked is = refused ws holds name (reasons.Definition n fault) (inl (limit, asked)) is
-not_replayed ws holds name limit (reasons.NoStep n) asked is = refused ws holds name (reasons.NoStep n) (inl (limit, asked)) is
+is_log : (ws : List (List ℕ)) (holds : List ℕ → Option (List ℕ)) (name schedule : List ℕ) (limit : ℕ) (t : List Entry) (ending : Ending) → IsReplay ws name schedule limit
+    → Replays holds name schedule limit (answers.Ran t ending) → IsLog ws holds t ending
+is_log ws holds name schedule limit t ending asked is = record {
+  name = name;
+  schedule = schedule;
+  limit = limit;
+  asked = asked;
+  project = is.0;
+  held = is.1;
+  channels = is.2;
+  scheduled = is.3;
+  run = is.4;
+  replayed_so = is.5;
+}
 
--- what comes of a replay of the file that the words name is right for them
-pub replayed : (ws : List (List ℕ)) (holds : List ℕ → Option (List ℕ)) (name : List ℕ) (limit : ℕ) (a : Answer) → IsReplay ws name limit → Replays (holds name) limit a → IsAnswer ws holds a
-replayed ws holds name limit (answers.BadWords place) asked is = absurd is
-replayed ws holds name limit answers.Help asked is = absurd is
-replayed ws holds name limit answers.Version asked is = absurd is
-replayed ws holds name limit (answers.Refused reason) asked is = (not_replayed ws holds name limit reason asked is, refl)
-replayed ws holds name limit (answers.Ran t endings.Done) asked is = (t, record { name = name; limit = limit; asked = asked; project = is.0; held = is.1; built = is.2; run = is.3 }, refl)
-replayed ws holds name limit (answers.Ran t endings.Blocked) asked is = (t, record { name = name; limit = limit; asked = asked; project = is.0; held = is.1; built = is.2; run = is.3 }, refl)
-replayed ws holds name limit (answers.Ran t endings.Limit) asked is = (t, record { name = name; limit = limit; asked = asked; project = is.0; held = is.1; built = is.2; run = is.3 }, refl)
-replayed ws holds name limit (answers.Shown d) asked is = absurd is
+-- what comes of a replay of the files that the words name is right for them
+replay_right : (ws : List (List ℕ)) (holds : List ℕ → Option (List ℕ)) (name schedule : List ℕ) (limit : ℕ) (a : Answer) → IsReplay ws name schedule limit → Replays holds name schedule limit a → IsAnswer ws holds a
+replay_right ws holds name schedule limit (answers.BadWords place) asked is = absurd is
+replay_right ws holds name schedule limit answers.Help asked is = absurd is
+replay_right ws holds name schedule limit answers.Version asked is = absurd is
+replay_right ws holds name schedule limit (answers.Refused reason) asked is = (refused ws holds name reason (inl (schedule, limit, asked)) is, refl)
+replay_right ws holds name schedule limit (answers.ScriptRefused reason) asked is =
+    (record { name = name; schedule = schedule; limit = limit; asked = asked; project = is.0; held = is.1; unscheduled = is.2 }, refl)
+replay_right ws holds name schedule limit (answers.Ran t endings.Done) asked is = (t, is_log ws holds name schedule limit t endings.Done asked is, refl)
+replay_right ws holds name schedule limit (answers.Ran t endings.Blocked) asked is = (t, is_log ws holds name schedule limit t endings.Blocked asked is, refl)
+replay_right ws holds name schedule limit (answers.Ran t endings.Limit) asked is = (t, is_log ws holds name schedule limit t endings.Limit asked is, refl)
+replay_right ws holds name schedule limit (answers.Shown d) asked is = absurd is
 
 not_shown : (ws : List (List ℕ)) (holds : List ℕ → Option (List ℕ)) (name : List ℕ) (n : ℕ) (reason : ProjectReason) → IsPath ws name n → Shows (holds name) n (answers.Refused reason) → IsRefused ws holds reason
 not_shown ws holds name n (reasons.NoStep m) asked is = record {
@@ -62,7 +70,6 @@ not_shown ws holds name n (reasons.Read fault) asked is = refused ws holds name 
 not_shown ws holds name n (reasons.Attribute fault) asked is = refused ws holds name (reasons.Attribute fault) (inr (n, asked)) is
 not_shown ws holds name n (reasons.Store fault) asked is = refused ws holds name (reasons.Store fault) (inr (n, asked)) is
 not_shown ws holds name n (reasons.Tree fault) asked is = refused ws holds name (reasons.Tree fault) (inr (n, asked)) is
-not_shown ws holds name n reasons.NotBuilt asked is = refused ws holds name reasons.NotBuilt (inr (n, asked)) is
 not_shown ws holds name n (reasons.Definition m fault) asked is = refused ws holds name (reasons.Definition m fault) (inr (n, asked)) is
 
 -- what comes of the path of a workingstep in the file that the words name is right for them
@@ -70,6 +77,7 @@ pub shown : (ws : List (List ℕ)) (holds : List ℕ → Option (List ℕ)) (nam
 shown ws holds name n (answers.BadWords place) asked is = absurd is
 shown ws holds name n answers.Help asked is = absurd is
 shown ws holds name n answers.Version asked is = absurd is
+shown ws holds name n (answers.ScriptRefused reason) asked is = absurd is
 shown ws holds name n (answers.Refused reason) asked is = (not_shown ws holds name n reason asked is, refl)
 shown ws holds name n (answers.Ran t ending) asked is = absurd is
 shown ws holds name n (answers.Shown d) asked is = inl (d, record { name = name; number = n; asked = asked; project = is.0; held = is.1; step = is.2 }, refl)
@@ -85,17 +93,19 @@ answered ws before after a statuses.Blocked is put = (answer_text a, subst (λ (
 answered ws before after a statuses.RunLimit is put = (answer_text a, subst (λ (s : Status). IsRight ws before.holds s (answer_text a)) put.0 is, put.1)
 answered ws before after a statuses.Written is put = (answer_text a, subst (λ (s : Status). IsRight ws before.holds s (answer_text a)) put.0 is, put.1)
 answered ws before after a (statuses.BadWords place) is put = (answer_text a, subst (λ (s : Status). IsRight ws before.holds s (answer_text a)) put.0 is, put.1)
+answered ws before after a (statuses.ScriptRefused reason) is put = (answer_text a, subst (λ (s : Status). IsRight ws before.holds s (answer_text a)) put.0 is, put.1)
 answered ws before after a (statuses.ProjectRefused reason) is put = (answer_text a, subst (λ (s : Status). IsRight ws before.holds s (answer_text a)) put.0 is, put.1)
 
--- what comes of a replay of the named file, or why nothing does, answers the words
-pub replay_answers : (ws : List (List ℕ)) (holds : List ℕ → Option (List ℕ)) (before now : List ℕ → ℕ) (name : List ℕ) (limit : ℕ) (r : Result Answer Stop) → IsReplay ws name limit
-    → OrStops (before name) (now name) (Replays (holds name) limit) r → AnswersOrStops ws holds before now r
-replay_answers ws holds before now name limit (Ok a) asked is = replayed ws holds name limit a asked is
-replay_answers ws holds before now name limit (Err stops.ReadFault) asked is = (name, inl (limit, asked), is)
-replay_answers ws holds before now name limit (Err stops.NoMemory) asked is = tt
+-- what comes of a replay of the named files, or why nothing does, answers the words
+pub replay_answers : (ws : List (List ℕ)) (holds : List ℕ → Option (List ℕ)) (before now : List ℕ → ℕ) (name schedule : List ℕ) (limit : ℕ) (r : Result Answer Stop) → IsReplay ws name schedule limit
+    → OrReplayStops name schedule before now (Replays holds name schedule limit) r → AnswersOrStops ws holds before now r
+replay_answers ws holds before now name schedule limit (Ok a) asked is = replay_right ws holds name schedule limit a asked is
+replay_answers ws holds before now name schedule limit (Err stops.ReadFault) asked (inl is) = (name, inl (inl (schedule, limit, asked)), is)
+replay_answers ws holds before now name schedule limit (Err stops.ReadFault) asked (inr is) = (schedule, inr (name, limit, asked, is.0), is.1)
+replay_answers ws holds before now name schedule limit (Err stops.NoMemory) asked is = tt
 
 pub path_answers : (ws : List (List ℕ)) (holds : List ℕ → Option (List ℕ)) (before now : List ℕ → ℕ) (name : List ℕ) (n : ℕ) (r : Result Answer Stop) → IsPath ws name n
     → OrStops (before name) (now name) (Shows (holds name) n) r → AnswersOrStops ws holds before now r
 path_answers ws holds before now name n (Ok a) asked is = shown ws holds name n a asked is
-path_answers ws holds before now name n (Err stops.ReadFault) asked is = (name, inr (n, asked), is)
+path_answers ws holds before now name n (Err stops.ReadFault) asked is = (name, inl (inr (n, asked)), is)
 path_answers ws holds before now name n (Err stops.NoMemory) asked is = tt

@@ -6,11 +6,11 @@ use Rattle.run_log.specs.declared.entry.Ending.TheVariants as endings
 use Rattle.run_log.specs.LogText.{text_of}
 use Rattle.run_log.specs.BlocksText.{blocks_text}
 use Rattle.controller.specs.declared.answer.Answer.{Answer}
-use Rattle.controller.specs.declared.answer.Answer.TheVariants.{BadWords, Help, Version, Refused, Ran, Shown}
+use Rattle.controller.specs.declared.answer.Answer.TheVariants.{BadWords, Help, Version, Refused, ScriptRefused, Ran, Shown}
 use Rattle.controller.specs.declared.status.Status.{Status}
 use Rattle.controller.specs.declared.status.Status.TheVariants as statuses
 use Rattle.controller.specs.Texts.{bad_words_line, help_text, version_text}
-use Rattle.controller.specs.Refusal.{refusal_line}
+use Rattle.controller.specs.Refusal.{refusal_line, script_line}
 
 -- the bytes that say an answer
 abbrev pub answer_text : Answer → List ℕ
@@ -18,6 +18,7 @@ answer_text (BadWords place) = bad_words_line place
 answer_text Help = help_text
 answer_text Version = version_text
 answer_text (Refused reason) = refusal_line reason
+answer_text (ScriptRefused reason) = script_line reason
 answer_text (Ran t ending) = text_of t ending
 answer_text (Shown d) = blocks_text (path_of d)
 
@@ -32,5 +33,6 @@ answer_status (BadWords place) = statuses.BadWords place
 answer_status Help = statuses.Written
 answer_status Version = statuses.Written
 answer_status (Refused reason) = statuses.ProjectRefused reason
+answer_status (ScriptRefused reason) = statuses.ScriptRefused reason
 answer_status (Ran t ending) = ending_status ending
 answer_status (Shown d) = statuses.Written

@@ -3,14 +3,14 @@ use Rattle.std.specs.Prelude.{◌≡◌, ◌≤◌, ℕ, List, []}
 use Rattle.nc_outside.specs.Outside.{Rose}
 use Rattle.controller.specs.declared.status.Status.{Status}
 use Rattle.controller.specs.declared.status.Status.TheVariants.{ReadFault, WriteFault, NoMemory}
-use Rattle.controller.specs.Words.{NamesProject, NameNoFile}
+use Rattle.controller.specs.Words.{Names, NameNoFile}
 use Rattle.controller.specs.Outside.{Outside, Writes, FailsToWrite}
 use Rattle.controller.specs.Asked.{IsRight}
 
 -- a file failed that the words name to read
 pub record FailsToRead {F : Type 0} (words : List (List ℕ)) (before after : Outside F) : Type 0 where
   pub name : List ℕ
-  pub named : NamesProject words name
+  pub named : Names words name
   pub failed : Rose (before.read_faults name) (after.read_faults name)
 
 -- The status answers the words. Where a named file failed, or memory ran out, nothing is written. Where the sink failed, it took a front of the text

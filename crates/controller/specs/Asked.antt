@@ -1,25 +1,29 @@
 -- What the words ask for, and the status and the text that are right for it.
-use Rattle.std.specs.Prelude.{◌≡◌, ◌⊎◌, ℕ, true, false, List, Option, Ok, IfSome}
+use Rattle.std.specs.Prelude.{◌≡◌, ◌⊎◌, ℕ, true, false, List, [], Option, Ok, IfSome}
 use Rattle.path_blocks.specs.declared.def.Def.{Def}
 use Rattle.path_blocks.specs.Path.{path_of}
 use Rattle.project_store.specs.Entities.{entity_at}
 use Rattle.step_def.specs.DefOf.{def_of}
 use Rattle.project_read.specs.declared.reason.ProjectReason.{ProjectReason}
-use Rattle.project_read.specs.declared.reason.ProjectReason.TheVariants.{NotBuilt, NoStep}
-use Rattle.project_read.specs.Faults.{is_among}
+use Rattle.project_read.specs.declared.reason.ProjectReason.TheVariants.{NoStep}
+use Rattle.edit_rules.specs.Faults.{is_among}
 use Rattle.project_read.specs.Holds.{Project, Holds}
 use Rattle.project_read.specs.Refuses.{Refuses}
+use Rattle.run_law.specs.Replay.{replay}
+use Rattle.project_law.specs.ProjectRules.{rules_of, channel_numbers}
+use Rattle.project_law.specs.Run.{IsRun}
 use Rattle.run_log.specs.declared.entry.Entry.{Entry}
 use Rattle.run_log.specs.declared.entry.Ending.{Ending}
 use Rattle.run_log.specs.declared.entry.Ending.TheVariants as endings
 use Rattle.run_log.specs.LogText.{text_of}
 use Rattle.run_log.specs.BlocksText.{blocks_text}
 use Rattle.controller.specs.declared.status.Status.{Status}
-use Rattle.controller.specs.declared.status.Status.TheVariants.{Done, Blocked, RunLimit, Written, BadWords, ProjectRefused, ReadFault, WriteFault, NoMemory}
+use Rattle.controller.specs.declared.status.Status.TheVariants.{Done, Blocked, RunLimit, Written, BadWords, ProjectRefused, ScriptRefused, ReadFault, WriteFault, NoMemory}
 use Rattle.controller.specs.Words.{help_line, version_line, is_line, IsReplay, IsPath, NamesProject, AreBadAt}
 use Rattle.controller.specs.Texts.{bad_words_line, help_text, version_text}
-use Rattle.controller.specs.Refusal.{refusal_line}
-use Rattle.project_law.specs.Run.{tree_of_project, is_plain, IsRun}
+use Rattle.controller.specs.Refusal.{refusal_line, script_line}
+use Rattle.controller.specs.declared.status.ScriptReason.{ScriptReason}
+use Rattle.controller.specs.ScheduleText.{IsScheduled, IsUnscheduled}
 
 -- the file of this name holds the project, where it is told what it holds
 abbrev pub HoldsProject : (List ℕ → Option (List ℕ)) → List ℕ → Project → Type 0
@@ -30,16 +34,23 @@ pub record IsStep (p : Project) (n : ℕ) (d : Def) : Type 0 where
   pub among : is_among p.steps n ≡ true
   pub defined : def_of (entity_at p.entities) n ≡ Ok d
 
--- the words ask for a replay, and t is the log of a legal run of the project in the file that they name, up to the limit that they name, with this ending.
--- Its tree is one that this stage of the program can run
+-- the project's run under a schedule of these channels
+abbrev pub replayed : Project → List ℕ → ℕ → List Entry
+replayed p channels limit = replay (rules_of p.entities []) (channel_numbers p.entities) channels limit
+
+-- The words ask for a replay, and t is the log of the run of the project in the file that they name, under the schedule that they name and up to the
+-- limit that they name. It is a legal run, and it has this ending.
 pub record IsLog (words : List (List ℕ)) (holds : List ℕ → Option (List ℕ)) (t : List Entry) (ending : Ending) : Type 0 where
   pub name : List ℕ
+  pub schedule : List ℕ
   pub limit : ℕ
-  pub asked : IsReplay words name limit
+  pub asked : IsReplay words name schedule limit
   pub project : Project
   pub held : HoldsProject holds name project
-  pub built : is_plain (tree_of_project project) ≡ true
-  pub run : IsRun project limit t ending
+  pub channels : List ℕ
+  pub scheduled : IsScheduled holds schedule channels
+  pub run : IsRun project.entities [] limit t ending
+  pub replayed_so : t ≡ replayed project channels limit
 
 -- the words ask for the path of a workingstep of the project in the file that they name, and this is its definition
 pub record IsDefinition (words : List (List ℕ)) (holds : List ℕ → Option (List ℕ)) (d : Def) : Type 0 where
@@ -62,17 +73,19 @@ pub record HasNoStep (words : List (List ℕ)) (holds : List ℕ → Option (Lis
   pub asked : IsPath words name n
   pub absent : IfSome (holds name) (λ bytes. (p : Project) × Holds bytes p × (is_among p.steps n ≡ false))
 
--- the words ask for a replay, and the tree of the project in the file that they name isn't one that this stage of the program can run
-pub record HasNotBuilt (words : List (List ℕ)) (holds : List ℕ → Option (List ℕ)) : Type 0 where
+-- the words ask for a replay, the file that they name holds a project, and the schedule that they name is none, for this reason
+pub record HasNoSchedule (words : List (List ℕ)) (holds : List ℕ → Option (List ℕ)) (reason : ScriptReason) : Type 0 where
   pub name : List ℕ
+  pub schedule : List ℕ
   pub limit : ℕ
-  pub asked : IsReplay words name limit
-  pub unbuilt : IfSome (holds name) (λ bytes. (p : Project) × Holds bytes p × (is_plain (tree_of_project p) ≡ false))
+  pub asked : IsReplay words name schedule limit
+  pub project : Project
+  pub held : HoldsProject holds name project
+  pub unscheduled : IsUnscheduled holds schedule reason
 
 -- why the project that the words name is refused
 abbrev pub IsRefused : List (List ℕ) → (List ℕ → Option (List ℕ)) → ProjectReason → Type 0
 IsRefused words holds (NoStep n) = HasNoStep words holds n
-IsRefused words holds NotBuilt = HasNotBuilt words holds
 IsRefused words holds reason = HasNoProject words holds reason
 
 -- what is written for the words: the path of a workingstep block by block, the commands, or the version
@@ -89,6 +102,7 @@ IsRight words holds RunLimit text = (t : List Entry) × IsLog words holds t endi
 IsRight words holds Written text = IsWritten words holds text
 IsRight words holds (BadWords place) text = AreBadAt words place × (text ≡ bad_words_line place)
 IsRight words holds (ProjectRefused reason) text = IsRefused words holds reason × (text ≡ refusal_line reason)
+IsRight words holds (ScriptRefused reason) text = HasNoSchedule words holds reason × (text ≡ script_line reason)
 IsRight words holds ReadFault text = ⊥
 IsRight words holds WriteFault text = ⊥
 IsRight words holds NoMemory text = ⊥

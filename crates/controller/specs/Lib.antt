@@ -6,8 +6,9 @@ pub mod Texts
 pub mod Refusal
 pub mod Codes
 pub mod Outside
+pub mod ScheduleText
 pub mod Asked
-pub mod Kinds
+pub mod Told
 pub mod Answered
 pub mod Answer
-pub mod ProjectFile
+pub mod Calls

@@ -1,4 +1,4 @@
--- The line of a project's refusal, after this profile: the reason's name and its numbers.
+-- The lines of refusals, of a project and of a script, after this profile: the reason's name and its numbers.
 use Rattle.std.specs.Prelude.{ℕ, List, ◌++◌, codes, decimal}
 use Rattle.p21_lex.specs.declared.error.LexErr.{LexErr}
 use Rattle.p21_lex.specs.declared.error.LexErr.TheVariants as lexes
@@ -11,9 +11,11 @@ use Rattle.project_store.specs.declared.error.StoreErr.TheVariants as stores
 use Rattle.step_def.specs.declared.fault.DefFault.{DefFault}
 use Rattle.step_def.specs.declared.fault.DefFault.TheVariants.{Missing, HasToolpath, BadDirection, Mismatch, NotRectangle, NotPositive, OutOfRange, ToolTooBig, TooManyBlocks}
 use Rattle.project_read.specs.declared.reason.ProjectReason.{ProjectReason}
-use Rattle.project_read.specs.declared.reason.ProjectReason.TheVariants.{TooLong, Read, Attribute, Store, Tree, Definition, NotBuilt, NoStep}
+use Rattle.project_read.specs.declared.reason.ProjectReason.TheVariants.{TooLong, Read, Attribute, Store, Tree, Definition, NoStep}
 use Rattle.exec_tree.specs.declared.error.TreeErr.{TreeErr}
 use Rattle.exec_tree.specs.declared.error.TreeErr.TheVariants as trees
+use Rattle.controller.specs.declared.status.ScriptReason.{ScriptReason}
+use Rattle.controller.specs.declared.status.ScriptReason.TheVariants as script
 use Rattle.controller.specs.Texts.{row}
 
 -- a name with a number behind it
@@ -79,8 +81,14 @@ reason_text (Attribute fault) = type_text fault
 reason_text (Store fault) = store_text fault
 reason_text (Tree fault) = tree_text fault
 reason_text (Definition n fault) = one (codes "Definition") n ++ (codes " " ++ fault_text fault)
-reason_text NotBuilt = codes "NotBuilt"
 reason_text (NoStep n) = one (codes "NoStep") n
 
 abbrev pub refusal_line : ProjectReason → List ℕ
 refusal_line reason = row (codes "refused " ++ reason_text reason)
+
+abbrev pub script_text : ScriptReason → List ℕ
+script_text script.TooLong = codes "TooLong"
+script_text (script.Schedule place) = one (codes "Schedule") place
+
+abbrev pub script_line : ScriptReason → List ℕ
+script_line reason = row (codes "refused " ++ script_text reason)

@@ -19,8 +19,9 @@ abbrev pub help_text : List ℕ
 help_text =
     rows (codes "stepnc runs a STEP-NC project and writes its run log."
     ∷ []
-    ∷ codes "  stepnc replay PROJECT - - LIMIT"
-    ∷ codes "      runs the project in the file PROJECT, up to LIMIT entries (1 to 2000000)"
+    ∷ codes "  stepnc replay PROJECT - SCHEDULE LIMIT"
+    ∷ codes "      runs the project in the file PROJECT, up to LIMIT entries (1 to 2000000);"
+    ∷ codes "      SCHEDULE is a file that says which channel has the next turn, or -"
     ∷ codes "  stepnc path PROJECT STEP"
     ∷ codes "      writes the path of workingstep STEP, one block a line"
     ∷ codes "  stepnc --help"
@@ -30,8 +31,8 @@ help_text =
     ∷ []
     ∷ codes "For example: stepnc replay examples/drilled_hole.stp - - 100"
     ∷ []
-    ∷ codes "Exit status: 0 done or written, 2 stopped at the limit, 3 bad words,"
-    ∷ codes "4 project refused, 7 project file not read, 8 output not taken,"
+    ∷ codes "Exit status: 0 done or written, 1 blocked, 2 stopped at the limit, 3 bad words,"
+    ∷ codes "4 project refused, 5 schedule refused, 7 file not read, 8 output not taken,"
     ∷ codes "9 out of memory."
     ∷ [])
 

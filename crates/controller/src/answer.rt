@@ -9,8 +9,8 @@ ghost use Rattle.run_log.specs.LogText.{text_of};
 ghost use Rattle.controller.specs.Texts.{bad_words_line, help_text, version_text};
 ghost use Rattle.controller.specs.Answer.{answer_text, answer_status};
 
-use crate::refusal::refusal_line;
-use crate::status::Status;
+use crate::refusal::{refusal_line, script_line};
+use crate::status::{ScriptReason, Status};
 use nc_base::{Line, put, put_number};
 use nc_outside::{Failed, Sink, put_all};
 use path_blocks::Plan;
@@ -28,6 +28,8 @@ pub enum Answer {
     Version,
     /// The project is refused.
     Refused(ProjectReason),
+    /// The schedule is refused.
+    ScriptRefused(ScriptReason),
     /// The project ran so.
     Ran(Log, Ending),
     /// The workingstep has this path.
@@ -37,7 +39,7 @@ pub enum Answer {
 /// Why there is no answer.
 #[derive(Clone, Copy, Debug, PartialEq, Eq)]
 pub enum Stop {
-    /// The project file could not be read.
+    /// A file that the words name could not be read.
     ReadFault,
     /// Memory ran out.
     NoMemory,
@@ -46,8 +48,9 @@ pub enum Stop {
 /// Which commands there are.
 const HELP: &[u8] = b"stepnc runs a STEP-NC project and writes its run log.\n\
     \n  \
-    stepnc replay PROJECT - - LIMIT\n      \
-    runs the project in the file PROJECT, up to LIMIT entries (1 to 2000000)\n  \
+    stepnc replay PROJECT - SCHEDULE LIMIT\n      \
+    runs the project in the file PROJECT, up to LIMIT entries (1 to 2000000);\n      \
+    SCHEDULE is a file that says which channel has the next turn, or -\n  \
     stepnc path PROJECT STEP\n      \
     writes the path of workingstep STEP, one block a line\n  \
     stepnc --help\n      \
@@ -57,8 +60,8 @@ const HELP: &[u8] = b"stepnc runs a STEP-NC project and writes its run log.\n\
     \n\
     For example: stepnc replay examples/drilled_hole.stp - - 100\n\
     \n\
-    Exit status: 0 done or written, 2 stopped at the limit, 3 bad words,\n\
-    4 project refused, 7 project file not read, 8 output not taken,\n\
+    Exit status: 0 done or written, 1 blocked, 2 stopped at the limit, 3 bad words,\n\
+    4 project refused, 5 schedule refused, 7 file not read, 8 output not taken,\n\
     9 out of memory.\n";
 
 /// Which program this is.
@@ -104,6 +107,7 @@ impl Answer {
             Answer::BadWords(place) => Status::BadWords(*place),
             Answer::Help | Answer::Version | Answer::Shown(_) => Status::Written,
             Answer::Refused(reason) => Status::ProjectRefused(*reason),
+            Answer::ScriptRefused(reason) => Status::ScriptRefused(*reason),
             Answer::Ran(_, Ending::Done) => Status::Done,
             Answer::Ran(_, Ending::Blocked) => Status::Blocked,
             Answer::Ran(_, Ending::Limit) => Status::RunLimit,
@@ -122,6 +126,7 @@ impl Answer {
             Answer::Help => put_all(sink, HELP),
             Answer::Version => put_all(sink, VERSION),
             Answer::Refused(reason) => put_all(sink, refusal_line(*reason).as_slice()),
+            Answer::ScriptRefused(reason) => put_all(sink, script_line(*reason).as_slice()),
             Answer::Ran(log, ending) => put_log(log, *ending, sink),
             Answer::Shown(plan) => put_path(plan, sink),
         }

@@ -19,10 +19,17 @@ pub const NUMBER_DIGITS: usize = 10;
 /// What the words of a command ask for.
 #[derive(Clone, Copy)]
 pub enum Command<'a> {
-    /// To run the project in this file, up to so many entries of the log.
-    Replay { project: &'a NcText, limit: u32 },
+    /// To run the project in this file under the schedule that this word names, up to so many entries of the log.
+    Replay {
+        project: &'a NcText,
+        schedule: &'a NcText,
+        limit: u32,
+    },
     /// To show the path of this workingstep of the project in this file.
-    Path { project: &'a NcText, step: Number },
+    Path {
+        project: &'a NcText,
+        step: Number,
+    },
     /// To say which commands there are.
     Help,
     /// To say which program this is.
@@ -125,10 +132,14 @@ fn replay_of(words: &[NcText]) -> Result<Command<'_>, u32>
 {
     let project = name_at(words, 1)?;
     hyphen_at(words, 2)?;
-    hyphen_at(words, 3)?;
+    let schedule = name_at(words, 3)?;
     let limit = limit_at(words, 4)?;
     end_at(words, 5)?;
-    Ok(Command::Replay { project, limit })
+    Ok(Command::Replay {
+        project,
+        schedule,
+        limit,
+    })
 }
 
 /// What words ask for whose first is `path`.

@@ -1,15 +1,14 @@
-//! All that the program stepnc does: the words of a command are read, its project file is read, run or shown, and the answer is written
-//! into a sink. `top` and `quick` are the calls; everything they say of an answer is the definition `Serves`.
+//! All that the program stepnc does: the words of a command are read, the files that they name are read, their project is run or shown, and the
+//! answer is written into a sink. `top` and `quick` are the calls; everything they say of an answer is the definition `Serves`.
 //!
 //! | module | what is in it | calls |
 //! |---|---|---|
 //! | top_calls | the calls | `top`, `quick` |
 //! | status | how a call ended, and its exit status | `Status` |
 //! | command, numerals | the words of a command | |
-//! | laws | words mean one command or are bad at one place, and have one kind of answer | `word_laws`, `answer_laws` |
-//! | project_file | the project that a file holds | |
+//! | laws | words mean one command or are bad at one place, and have one answer | `word_laws`, `answer_laws` |
+//! | project_file, schedule_file, unheld | the project that a file holds, the schedule that a word names, or why there is none | |
 //! | replaying, showing | what the commands do with a project | |
-//! | plain | whether this stage can run a project | |
 //! | answer, refusal | an answer before it is written, and its text | |
 //!
 //! Its tests stand in the crate controller_tests.
@@ -19,14 +18,15 @@ mod answer;
 mod command;
 mod laws;
 mod numerals;
-mod plain;
 mod project_file;
 mod refusal;
 mod replaying;
+mod schedule_file;
 mod showing;
 mod status;
 mod top_calls;
+mod unheld;
 
 pub use laws::{answer_laws, word_laws};
-pub use status::Status;
+pub use status::{ScriptReason, Status};
 pub use top_calls::{quick, top};

@@ -1,34 +1,15 @@
 //! The project that a file holds.
 
 ghost use Rattle.std.specs.Prelude.{◌≡◌, ℕ, ◌≤◌, List};
-ghost use Rattle.controller.specs.ProjectFile.{ReadsFile, answer_without};
+ghost use Rattle.controller.specs.Calls.{ReadsFile};
 
-use crate::answer::{Answer, Stop};
+use crate::answer::Stop;
+use crate::unheld::Unheld;
+use edit_rules::Project;
 use nc_base::NcText;
 use nc_outside::{FileErr, Files};
-use project_read::{MAX_PROJECT_BYTES, Project, ProjectErr, ProjectReason, project_in};
+use project_read::{MAX_PROJECT_BYTES, ProjectErr, ProjectReason, project_in};
 use std::alloc::Global;
-
-/// Why a file gave no project.
-#[derive(Clone, Copy, Debug, PartialEq, Eq)]
-pub enum Unheld {
-    /// It holds none.
-    Refused(ProjectReason),
-    /// What it holds isn't known: it could not be read, or memory ran out.
-    Stopped(Stop),
-}
-
-impl Unheld {
-    /// The answer where a file gave no project, or why there is no answer.
-    pub fn answer(self) -> Result<Answer, Stop>
-        ensures { result ≡ answer_without self }
-    {
-        match self {
-            Unheld::Refused(reason) => Ok(Answer::Refused(reason)),
-            Unheld::Stopped(stop) => Err(stop),
-        }
-    }
-}
 
 /// The project that a file holds.
 ///

@@ -1,9 +1,10 @@
-//! The line that says why a project is refused.
+//! The lines that say why a project or a schedule is refused.
 
 ghost use Rattle.std.specs.Prelude.{◌≡◌, ◌+◌, ◌≤◌, ◌++◌, ◌∷◌, length, decimal};
 ghost use Rattle.arrayvec.specs.ArrayVec.{array_vec_len};
-ghost use Rattle.controller.specs.Refusal.{one, two, lex_text, read_text, type_text, store_text, tree_text, fault_text, reason_text, refusal_line};
+ghost use Rattle.controller.specs.Refusal.{one, two, lex_text, read_text, type_text, store_text, tree_text, fault_text, reason_text, refusal_line, script_text, script_line};
 
+use crate::status::ScriptReason;
 use entity_read::TypeErr;
 use exec_tree::TreeErr;
 use itoa::Buffer;
@@ -154,7 +155,6 @@ fn put_reason(line: &mut Line, reason: ProjectReason)
             put(line, b" ");
             put_fault(line, fault);
         }
-        ProjectReason::NotBuilt => put(line, b"NotBuilt"),
         ProjectReason::NoStep(n) => put_one(line, b"NoStep", n),
     }
 }
@@ -166,6 +166,29 @@ pub fn refusal_line(reason: ProjectReason) -> Line
     let mut line = Line::new();
     put(&mut line, b"refused ");
     put_reason(&mut line, reason);
+    put(&mut line, b"\n");
+    line
+}
+
+/// Puts the name and the number of a reason at the line's end.
+fn put_script(line: &mut Line, reason: ScriptReason)
+    requires { array_vec_len line.old + 60 ≤ 256 }
+    ensures items { line.new.items ≡ line.old.items ++ script_text reason }
+    ensures len { array_vec_len line.new ≤ array_vec_len line.old + 60 }
+{
+    match reason {
+        ScriptReason::TooLong => put(line, b"TooLong"),
+        ScriptReason::Schedule(place) => put_one(line, b"Schedule", place),
+    }
+}
+
+/// The line that says why a schedule is refused.
+pub fn script_line(reason: ScriptReason) -> Line
+    ensures { result.items ≡ script_line reason }
+{
+    let mut line = Line::new();
+    put(&mut line, b"refused ");
+    put_script(&mut line, reason);
     put(&mut line, b"\n");
     line
 }

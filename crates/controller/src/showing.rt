@@ -1,39 +1,23 @@
 //! The path of a workingstep.
 
-ghost use Rattle.std.specs.Prelude.{◌≡◌, ℕ, ◌≤◌, List, false, MatchOption, IfOk};
-ghost use Rattle.project_read.specs.Faults.{is_among};
-ghost use Rattle.project_read.specs.Reads.{model_of, HaveDefs};
-ghost use Rattle.controller.specs.Asked.{IsStep};
-ghost use Rattle.controller.specs.ProjectFile.{OrStops, Shows, ShowsStep};
+ghost use Rattle.std.specs.Prelude.{◌≡◌, ℕ, ◌≤◌, List, IfOk};
+ghost use Rattle.project_read.specs.Reads.{model_of};
+ghost use Rattle.controller.specs.Calls.{OrStops, Shows, ShowsStep};
 
 use crate::answer::{Answer, Stop};
 use crate::project_file::project_at;
+use edit_rules::Project;
 use nc_base::{NcText, NoMemory, Number};
 use nc_outside::Files;
-use path_blocks::Def;
-use project_read::{Project, ProjectReason};
+use project_read::ProjectReason;
 use run_core::plan_of;
 use std::alloc::Global;
 
-/// The definition of the project's workingstep `n`.
-fn definition_in(project: &Project, n: Number) -> Option<&Def>
-    requires { HaveDefs project.now.store project.now.steps.items }
-    ensures { MatchOption result (is_among (model_of project.now).steps n ≡ false) (λ def. IsStep (model_of project.now) n def.now) }
-{
-    for step in project.steps.as_slice() {
-        if step.number == n {
-            return Some(&step.def);
-        }
-    }
-    None
-}
-
 /// The path of the project's workingstep `n`, or that it has no such workingstep.
 fn step_path(alloc: Global, project: &Project, n: Number) -> Result<Answer, NoMemory>
-    requires { HaveDefs project.now.store project.now.steps.items }
     ensures shows { IfOk result (ShowsStep (model_of project.now) n) }
 {
-    match definition_in(project, n) {
+    match project.definition(n) {
         Some(def) => Ok(Answer::Shown(plan_of(alloc, def)?)),
         None => Ok(Answer::Refused(ProjectReason::NoStep(n))),
     }

@@ -5,6 +5,15 @@ ghost use Rattle.controller.specs.Codes.{code_of};
 
 use project_read::ProjectReason;
 
+/// Why a schedule is refused.
+#[derive(Clone, Copy, Debug, PartialEq, Eq)]
+pub enum ScriptReason {
+    /// The schedule has more than `MAX_SCHEDULE_BYTES` bytes.
+    TooLong,
+    /// The place of the first byte that a schedule may not hold: a byte offset from 0.
+    Schedule(u32),
+}
+
 /// How a command ended.
 #[derive(Clone, Copy, Debug, PartialEq, Eq)]
 pub enum Status {
@@ -20,7 +29,9 @@ pub enum Status {
     BadWords(u32),
     /// The project is refused.
     ProjectRefused(ProjectReason),
-    /// The project file could not be read. Nothing is written.
+    /// The schedule is refused.
+    ScriptRefused(ScriptReason),
+    /// A file that the words name could not be read. Nothing is written.
     ReadFault,
     /// The sink failed. It has a front of what was to be written.
     WriteFault,
@@ -39,6 +50,7 @@ impl Status {
             Status::RunLimit => 2,
             Status::BadWords(_) => 3,
             Status::ProjectRefused(_) => 4,
+            Status::ScriptRefused(_) => 5,
             Status::ReadFault => 7,
             Status::WriteFault => 8,
             Status::NoMemory => 9,

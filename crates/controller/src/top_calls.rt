@@ -3,16 +3,19 @@
 ghost use Rattle.std.specs.Prelude.{◌≡◌, ℕ, ◌≤◌, List, IfOk};
 ghost use Rattle.controller.specs.Answered.{Serves};
 ghost use Rattle.controller.specs.Outside.{outside};
-ghost use Rattle.controller.specs.ProjectFile.{AnswersOrStops, IsPut};
+ghost use Rattle.controller.specs.Told.{IsComplete};
+ghost use Rattle.controller.specs.Calls.{AnswersOrStops, IsPut};
 ghost use Rattle.controller.specs.Words.{NameNoFile};
 
 use crate::answer::{Answer, Stop};
 use crate::command::{Command, command_of};
-use crate::replaying::replay_file;
+use crate::laws::word_laws;
+use crate::replaying::replay_files;
 use crate::showing::show_file;
 use crate::status::Status;
 use nc_base::NcText;
 use nc_outside::{Files, Gate, Sink};
+use project_read::project_laws;
 use std::alloc::Global;
 
 /// The answer to the words.
@@ -23,7 +26,13 @@ fn answer_to<F: Files>(alloc: Global, words: &[NcText], files: &mut F) -> Result
     ensures answer { AnswersOrStops words.now (F.holds files.old) (F.faults files.old) (F.faults files.new) result }
 {
     match command_of(words) {
-        Ok(Command::Replay { project, limit }) => replay_file(alloc, project, limit, files),
+        Ok(
+            Command::Replay {
+                project,
+                schedule,
+                limit,
+            },
+        ) => replay_files(alloc, project, schedule, limit, files),
         Ok(Command::Path { project, step }) => show_file(alloc, project, step, files),
         Ok(Command::Help) => Ok(Answer::Help),
         Ok(Command::Version) => Ok(Answer::Version),
@@ -42,14 +51,8 @@ fn say<S: Sink>(answer: &Answer, sink: &mut S) -> Status
     answer.status()
 }
 
-/// Does what the words ask for: it needs neither threads nor a wait, and always returns. What it answers and has written is right for the
-/// words and the files: of a project that can be run the log of a legal run.
-pub fn quick<F: Files, S: Sink>(
-    alloc: Global,
-    words: &[NcText],
-    files: &mut F,
-    sink: &mut S,
-) -> Status
+/// Does what the words ask for.
+fn serve<F: Files, S: Sink>(alloc: Global, words: &[NcText], files: &mut F, sink: &mut S) -> Status
     ensures { Serves words.now (outside F.holds F.faults S.taken S.faults files.old sink.old) (outside F.holds F.faults S.taken S.faults files.new sink.new) result }
 {
     match answer_to(alloc, words, files) {
@@ -57,6 +60,23 @@ pub fn quick<F: Files, S: Sink>(
         Err(Stop::ReadFault) => Status::ReadFault,
         Err(Stop::NoMemory) => Status::NoMemory,
     }
+}
+
+/// Does what the words ask for: it needs neither threads nor a wait, and always returns. What it answers and has written is right for the
+/// words and the files: of a project the log of its run under the schedule, which is a legal run. Where the words and the files that they
+/// name are good, and neither they nor the sink failed, a replay is written whole, and its status says how the run ends, unless memory ran out.
+pub fn quick<F: Files, S: Sink>(
+    alloc: Global,
+    words: &[NcText],
+    files: &mut F,
+    sink: &mut S,
+) -> Status
+    ensures serves { Serves words.now (outside F.holds F.faults S.taken S.faults files.old sink.old) (outside F.holds F.faults S.taken S.faults files.new sink.new) result }
+    ensures complete { IsComplete words.now (outside F.holds F.faults S.taken S.faults files.old sink.old) (outside F.holds F.faults S.taken S.faults files.new sink.new) result }
+{
+    word_laws();
+    project_laws();
+    serve(alloc, words, files, sink)
 }
 
 /// All that the program does. No command needs threads yet, so `quick` serves each, and the gate is never passed.
@@ -67,7 +87,8 @@ pub fn top<R: AllocGlobal, F: Files, S: Sink, G: Gate>(
     sink: &mut S,
     _gate: &G,
 ) -> Status
-    ensures { Serves words.now (outside F.holds F.faults S.taken S.faults files.old sink.old) (outside F.holds F.faults S.taken S.faults files.new sink.new) result }
+    ensures serves { Serves words.now (outside F.holds F.faults S.taken S.faults files.old sink.old) (outside F.holds F.faults S.taken S.faults files.new sink.new) result }
+    ensures complete { IsComplete words.now (outside F.holds F.faults S.taken S.faults files.old sink.old) (outside F.holds F.faults S.taken S.faults files.new sink.new) result }
 {
     quick(rt.alloc(), words, files, sink)
 }

@@ -5,7 +5,7 @@ use crate::projects::{
     FACE, FACE_PATH, HOLE, HOLE_LOG, HOLE_LOG_OF_SEVEN, HOLE_PATH, PLATE, POCKET, POCKET_PATH,
     TWO_HOLES,
 };
-use controller::Status;
+use controller::{ScriptReason, Status};
 use nc_base::NoMemory;
 use nc_outside::{MemoryFiles, MemorySink};
 use project_read::ProjectReason;
@@ -95,20 +95,20 @@ const RUNS: [Row; 9] = [
         Status::Done,
         Text(HOLE_LOG),
     ),
-    // What isn't a workingstep directly in the main workplan is read, and not run yet.
+    // What isn't a workingstep directly in the main workplan.
     (
         HOLE,
         &[("(#10),$);", "(#10,#3),$);\n#3=SET_MARK('S');")],
         &REPLAY,
-        Status::ProjectRefused(ProjectReason::NotBuilt),
-        Text("refused NotBuilt\n"),
+        Status::Done,
+        End("E 10\nS 3\nend done 9\n"),
     ),
     (
         HOLE,
         &[("(#10),$);", "(#3),$);\n#3=WORKPLAN('INNER',(#10),$);")],
         &REPLAY,
-        Status::ProjectRefused(ProjectReason::NotBuilt),
-        Text("refused NotBuilt\n"),
+        Status::Done,
+        Text(HOLE_LOG),
     ),
     (
         HOLE,
@@ -117,8 +117,8 @@ const RUNS: [Row; 9] = [
             "(#10,#3),$);\n#3=PARALLEL('BOTH',(#4));\n#4=SET_MARK('S');",
         )],
         &REPLAY,
-        Status::ProjectRefused(ProjectReason::NotBuilt),
-        Text("refused NotBuilt\n"),
+        Status::Done,
+        End("E 10\nS 4\nend done 9\n"),
     ),
     (
         PLATE,
@@ -285,7 +285,7 @@ macro_rules! bad {
     };
 }
 
-const BAD_WORDS: [Row; 20] = [
+const BAD_WORDS: [Row; 24] = [
     bad!([], 0),
     bad!(["fly"], 0),
     bad!(["replay"], 1),
@@ -296,6 +296,10 @@ const BAD_WORDS: [Row; 20] = [
     bad!(["replay", "plate.stp", "-", "-", "1e3"], 4),
     bad!(["replay", "plate.stp", "X", "-", "100"], 2),
     bad!(["replay", "", "-", "-", "100"], 1),
+    bad!(["replay", "plate.stp", "-"], 3),
+    bad!(["replay", "plate.stp", "-", "", "100"], 3),
+    bad!(["replay", "plate.stp", "-", "turns"], 4),
+    bad!(["replay", "plate.stp", "-", "turns", "007"], 4),
     bad!(["replay", "plate.stp", "-", "-", "100", "more"], 5),
     bad!(["path", "plate.stp"], 2),
     bad!(["path", "plate.stp", "010"], 2),
@@ -573,7 +577,9 @@ fn statuses_have_their_codes(rt: HostRuntime) {
         (Status::Blocked, 1),
         (Status::RunLimit, 2),
         (Status::BadWords(4), 3),
-        (Status::ProjectRefused(ProjectReason::NotBuilt), 4),
+        (Status::ProjectRefused(ProjectReason::NoStep(7)), 4),
+        (Status::ScriptRefused(ScriptReason::TooLong), 5),
+        (Status::ScriptRefused(ScriptReason::Schedule(2)), 5),
         (Status::ReadFault, 7),
         (Status::WriteFault, 8),
         (Status::NoMemory, 9),

@@ -141,11 +141,24 @@ fn expect_pieces(
 }
 
 /// Words, and the names that they give to be read.
-const READS: [(&[&str], &[&str]); 9] = [
+const READS: [(&[&str], &[&str]); 13] = [
     (&REPLAY, &["plate.stp"]),
     (&PATH, &["plate.stp"]),
     (&["path", "plate.stp", "20"], &["plate.stp"]),
     (&["replay", "missing.stp", "-", "-", "7"], &["missing.stp"]),
+    (
+        &["replay", "plate.stp", "-", "turns", "7"],
+        &["plate.stp", "turns"],
+    ),
+    (
+        &["replay", "plate.stp", "-", "plate.stp", "7"],
+        &["plate.stp", "plate.stp"],
+    ),
+    (
+        &["replay", "missing.stp", "-", "turns", "7"],
+        &["missing.stp"],
+    ),
+    (&["replay", "plate.stp", "-", "", "7"], &[]),
     (&["path", "-", "10"], &["-"]),
     (&["replay", "plate.stp", "plate.stp", "-", "7"], &[]),
     (&["path", "plate.stp", "0"], &[]),
@@ -173,6 +186,13 @@ const REFUSED: [(&str, &str); 5] = [
 fn expect_refused_reads(rt: &impl Abort, alloc: Global, old: &str, new: &str) -> Result<(), Fail> {
     let text = replaced(alloc, HOLE, old, new)?;
     expect_reads(rt, alloc, &text, &REPLAY, &["plate.stp"])?;
+    expect_reads(
+        rt,
+        alloc,
+        &text,
+        &["replay", "plate.stp", "-", "turns", "7"],
+        &["plate.stp"],
+    )?;
     expect_reads(rt, alloc, &text, &PATH, &["plate.stp"])?;
     expect_pieces(rt, alloc, &text, &REPLAY, 1)
 }

@@ -11,3 +11,5 @@ mod counted;
 mod long_run;
 #[cfg(test)]
 mod projects;
+#[cfg(test)]
+mod schedules;

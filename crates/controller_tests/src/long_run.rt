@@ -1,4 +1,4 @@
-//! A long run of every kind of path, compared whole with the text that the format of logs gives it.
+//! A long run of every kind of path and of executable, compared whole with the text that the format of logs gives it.
 
 use crate::asked::{answered, replaced};
 use controller::Status;
@@ -7,7 +7,7 @@ use std::alloc::Global;
 use std::process::Abort;
 use std::test::Fail;
 
-/// What stands before the workplan. Numbers of workingsteps begin at `FIRST_STEP`.
+/// What stands before the workplan. Numbers of its elements begin at `FIRST_STEP`.
 const HEAD: &str = "ISO-10303-21;\n\
     HEADER;\n\
     FILE_DESCRIPTION((''),'2;1');\n\
@@ -54,20 +54,22 @@ const HEAD: &str = "ISO-10303-21;\n\
     #80=LINEAR_PATH($,100.,#82);\n\
     #81=LINEAR_PROFILE($,20.);\n\
     #82=DIRECTION('',(1.,0.,0.));\n\
-    #83=RECTANGULAR_CLOSED_PROFILE($,40.,20.);\n";
+    #83=RECTANGULAR_CLOSED_PROFILE($,40.,20.);\n\
+    #90=CHANNEL('A');\n\
+    #91=CHANNEL('B');\n";
 
 const TAIL: &str = "ENDSEC;\n\
     END-ISO-10303-21;\n";
 
-/// The number of the first workingstep; the others follow it.
+/// The number of the first element; the others follow it.
 const FIRST_STEP: u32 = 1000;
 
-/// How many workingsteps there are.
+/// How many elements there are.
 const STEPS: u32 = 3000;
 
-/// The kinds of workingsteps, which they have in turn: the instance in the file, and the lines of the log, with `@` in place of the
-/// workingstep's number. The blocks were worked out by hand.
-const KINDS: [(&str, &str); 5] = [
+/// The kinds of elements, which they have in turn: the instances in the file, and the lines of the log, with `@` in place of the element's number. What
+/// stands in an element has that number and one more digit. The blocks were worked out by hand.
+const KINDS: [(&str, &str); 13] = [
     (
         "#@=MACHINING_WORKINGSTEP('S',#50,#20,#30);\n",
         "D @ 0\n\
@@ -145,14 +147,77 @@ const KINDS: [(&str, &str); 5] = [
             B @ 14 R -15000 -5000 30000\n\
             E @\n",
     ),
+    (
+        "#@=PARALLEL('P',(#@1,#@2));\n\
+            #@1=DISPLAY_MESSAGE('M');\n\
+            #@2=MACHINING_WORKINGSTEP('S',#50,#20,#30);\n",
+        "M @1\n\
+            D @2 0\n\
+            B @2 0 T 40 20000\n\
+            B @2 1 R 10000 20000 30000\n\
+            B @2 2 R 10000 20000 5000\n\
+            B @2 3 F 10000 20000 -15000 40\n\
+            B @2 4 R 10000 20000 5000\n\
+            B @2 5 R 10000 20000 30000\n\
+            E @2\n",
+    ),
+    (
+        "#@=NON_SEQUENTIAL('N',(#@1,#@2));\n\
+            #@1=DISPLAY_MESSAGE('M');\n\
+            #@2=OPTIONAL_STOP('O');\n",
+        "P @ 0\nM @1\nP @ 1\nM @2\n",
+    ),
+    (
+        "#@=SELECTIVE('N',(#@1,#@2));\n\
+            #@1=DISPLAY_MESSAGE('M');\n\
+            #@2=PROGRAM_STOP('O');\n",
+        "P @ 0\nM @1\n",
+    ),
+    (
+        "#@=IF_STATEMENT('I',#@1,#@2,$);\n\
+            #@1=COMPARISON_EQUAL(#@3,7.);\n\
+            #@2=DISPLAY_MESSAGE('M');\n\
+            #@3=NC_VARIABLE('V',7.);\n",
+        "T @ 1\nM @2\n",
+    ),
+    (
+        "#@=WHILE_STATEMENT('W',#@1,#@2);\n\
+            #@1=COMPARISON_LESS(#@3,3.);\n\
+            #@2=ASSIGNMENT('A',#@3,#@4);\n\
+            #@3=NC_VARIABLE('V',$);\n\
+            #@4=!NC_SUM(#@3,1.);\n",
+        "T @ 1\nA @2 1000\nT @ 1\nA @2 2000\nT @ 1\nA @2 3000\nT @ 0\n",
+    ),
+    (
+        "#@=WORKPLAN('L',(#@1,#@2,#@3),$);\n\
+            #@1=SET_MARK('S');\n\
+            #@2=WAIT_FOR_MARK('W',#@1);\n\
+            #@3=LOAD_TOOL('T');\n",
+        "S @1\nW @2\nM @3\n",
+    ),
+    // The wait of channel 0 comes behind the mark of channel 1.
+    (
+        "#@=PARALLEL('P',(#@1,#@2));\n\
+            #@1=WORKPLAN('A',(#@3),#90);\n\
+            #@2=WORKPLAN('B',(#@4),#91);\n\
+            #@3=WAIT_FOR_MARK('W',#@4);\n\
+            #@4=SET_MARK('S');\n",
+        "S @4\nW @3\n",
+    ),
+    (
+        "#@=IF_STATEMENT('I',#@1,#@2,$);\n\
+            #@1=OR_EXPRESSION(());\n\
+            #@2=DISPLAY_MESSAGE('M');\n",
+        "T @ 0\n",
+    ),
 ];
 
-/// The kind of a workingstep.
+/// The kind of an element.
 fn kind_of(step: u32) -> (&'static str, &'static str) {
-    KINDS[(step % 5) as usize]
+    KINDS[(step % 13) as usize]
 }
 
-/// A form with the number of a workingstep in place of each `@`.
+/// A form with the number of an element in place of each `@`.
 fn filled(alloc: Global, form: &str, step: u32) -> Result<String, NoMemory> {
     let number = FIRST_STEP.wrapping_add(step).to_string(alloc)?;
     replaced(alloc, form, "@", &number)
@@ -162,7 +227,7 @@ fn put_form(alloc: Global, text: &mut String, form: &str, step: u32) -> Result<(
     Ok(text.push_str(&filled(alloc, form, step)?)?)
 }
 
-/// A workplan of these workingsteps.
+/// A workplan of these elements.
 fn workplan(alloc: Global) -> Result<String, NoMemory> {
     let mut text = String::from_str(alloc, "#2=WORKPLAN('MAIN',(#1000")?;
     for step in 1..STEPS {
@@ -172,7 +237,7 @@ fn workplan(alloc: Global) -> Result<String, NoMemory> {
     Ok(text)
 }
 
-/// The instances of the workingsteps.
+/// The instances of the elements.
 fn workingsteps(alloc: Global) -> Result<String, NoMemory> {
     let mut text = String::new(alloc);
     for step in 0..STEPS {
@@ -182,7 +247,7 @@ fn workingsteps(alloc: Global) -> Result<String, NoMemory> {
     Ok(text)
 }
 
-/// A project of these workingsteps.
+/// A project of these elements.
 fn project(alloc: Global) -> Result<String, NoMemory> {
     let plan = workplan(alloc)?;
     let steps = workingsteps(alloc)?;
@@ -214,9 +279,9 @@ fn log_of(alloc: Global, lines: &str, count: usize, last: &str) -> Result<String
 type Row = (&'static str, Status, usize, &'static str);
 
 const ROWS: [Row; 4] = [
-    ("2000000", Status::Done, 37_200, "end done 37200\n"),
-    ("37200", Status::Done, 37_200, "end done 37200\n"),
-    ("37199", Status::RunLimit, 37_199, "end limit 37199\n"),
+    ("2000000", Status::Done, 21_246, "end done 21246\n"),
+    ("21246", Status::Done, 21_246, "end done 21246\n"),
+    ("21245", Status::RunLimit, 21_245, "end limit 21245\n"),
     ("20000", Status::RunLimit, 20_000, "end limit 20000\n"),
 ];
 
@@ -237,7 +302,7 @@ fn expect_log(
 }
 
 #[test]
-fn a_long_run_of_every_path_is_written_whole(rt: HostRuntime) -> Result<(), Fail> {
+fn a_long_run_of_every_kind_is_written_whole(rt: HostRuntime) -> Result<(), Fail> {
     let project = project(rt.alloc())?;
     let lines = entries(rt.alloc())?;
     for row in &ROWS {

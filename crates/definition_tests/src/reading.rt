@@ -1,11 +1,10 @@
 //! Projects read from bytes, slice by slice and as a whole.
 
+use edit_rules::Project;
 use nc_base::{NoMemory, Number, NumberList};
 use p21_lex::LexErr;
 use p21_parse::ReadErr;
-use project_read::{
-    MAX_PROJECT_BYTES, Project, ProjectErr, ProjectReason, project_in, project_laws,
-};
+use project_read::{MAX_PROJECT_BYTES, ProjectErr, ProjectReason, project_in, project_laws};
 use std::alloc::{AllocError, Global};
 use std::process::Abort;
 use std::test::Fail;
@@ -35,7 +34,7 @@ fn count_in(alloc: Global, text: &[u8]) -> Result<usize, ProjectErr> {
         return Ok(0);
     }
     let project = project_in(alloc, text)?;
-    Ok(project.store.len())
+    Ok(project.store().len())
 }
 
 /// Why a text is to be refused.
@@ -224,7 +223,7 @@ fn project(rt: &impl Abort, alloc: Global, text: &[u8]) -> Result<Project, Fail>
 
 /// What an entity of a project uses, itself among them.
 fn reached(project: &Project, alloc: Global, n: u32) -> Result<NumberList, NoMemory> {
-    project.store.closure(alloc, n)
+    project.store().closure(alloc, n)
 }
 
 fn reached_count(project: &Project, alloc: Global, n: u32) -> Result<u32, NoMemory> {
@@ -252,7 +251,7 @@ fn expect_reached(
 ) -> Result<(), Fail> {
     let text = file(alloc, parts)?;
     let project = project(rt, alloc, text.as_slice())?;
-    assert_eq!(rt; project.store.len(), 200_000);
+    assert_eq!(rt; project.store().len(), 200_000);
     expect_counts(rt, alloc, &project, counts)
 }
 
@@ -284,10 +283,10 @@ fn what_a_star_uses_is_found(rt: HostRuntime) -> Result<(), Fail> {
 /// The main workplan of a project, and how many nodes its tree, workingsteps and entities it has.
 fn sizes(project: &Project) -> (u32, u32, usize, usize) {
     (
-        project.tree.main_workplan(),
-        project.tree.len(),
-        project.steps.len(),
-        project.store.len(),
+        project.tree().main_workplan(),
+        project.tree().len(),
+        project.steps().len(),
+        project.store().len(),
     )
 }
 
@@ -325,7 +324,11 @@ fn the_least_faulty_step_is_told(rt: HostRuntime) {
 
 /// The numbers of a project's workingsteps, in their order.
 fn step_numbers(alloc: Global, project: &Project) -> Result<Vec<Number>, AllocError> {
-    project.steps.iter().map(|step| step.number).collect(alloc)
+    project
+        .steps()
+        .iter()
+        .map(|step| step.number)
+        .collect(alloc)
 }
 
 #[test]
@@ -333,5 +336,33 @@ fn steps_stand_in_the_order_of_the_plan(rt: HostRuntime) -> Result<(), Fail> {
     let project = project(&rt, rt.alloc(), RIGHT_STEPS)?;
     let numbers = step_numbers(rt.alloc(), &project)?;
     assert_eq!(&rt; numbers.as_slice(), [12, 10, 11].as_slice());
+    Ok(())
+}
+
+/// The tool of the definition that a project has of a workingstep.
+fn tool_of(project: &Project, n: Number) -> Option<Number> {
+    match project.definition(n) {
+        Some(def) => Some(def.tool),
+        None => None,
+    }
+}
+
+#[test]
+fn definitions_are_found_by_number(rt: HostRuntime) -> Result<(), Fail> {
+    let project = project(&rt, rt.alloc(), RIGHT_STEPS)?;
+    project.sound();
+    for n in [10, 11, 12] {
+        assert_eq!(&rt; tool_of(&project, n), Some(44));
+    }
+    for n in [0, 2, 9, 20] {
+        assert_eq!(&rt; tool_of(&project, n), None);
+    }
+    Ok(())
+}
+
+#[test]
+fn a_project_gives_its_store_and_tree(rt: HostRuntime) -> Result<(), Fail> {
+    let (store, tree) = project(&rt, rt.alloc(), HOLE)?.parts();
+    assert_eq!(&rt; (store.len(), tree.len()), (17, 2));
     Ok(())
 }

@@ -1,4 +1,4 @@
-//! Tests of paths, logs and runs: path_drill, path_plane, path_pocket, run_log, trace_law and run_core.
+//! Tests of paths, of logs and of the definitions of runs: path_drill, path_plane, path_pocket, run_log and trace_law.
 #![tactic(auto)]
 
 #[cfg(test)]
@@ -15,5 +15,3 @@ mod logs;
 mod paths;
 #[cfg(test)]
 mod pockets;
-#[cfg(test)]
-mod runs;

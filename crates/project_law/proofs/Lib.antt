@@ -1,3 +1,5 @@
-pub mod Rows
+pub mod MoveLemmas
 pub mod SoundLemmas
-pub mod Endings
+pub mod EndingLemmas
+pub mod LengthLemmas
+pub mod Rows

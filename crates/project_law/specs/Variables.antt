@@ -5,9 +5,11 @@ use Rattle.entity_types.specs.declared.field.Field.{Field}
 use Rattle.entity_types.specs.declared.field.Field.TheVariants.{Value}
 use Rattle.entity_types.specs.declared.entity.Entity.{Entity}
 use Rattle.entity_types.specs.Entity.{field_of}
+use Rattle.project_store.specs.Entities.{entity_at}
 use Rattle.exec_tree.specs.Said.{target_of}
 use Rattle.run_log.specs.declared.entry.Entry.{Entry}
 use Rattle.run_log.specs.declared.entry.Entry.TheVariants.{Assign}
+use Rattle.project_law.specs.Script.{Edit, plan_with}
 
 -- the number of a field, and 0 for `$`
 abbrev pub number_by : Field → ℤ
@@ -18,16 +20,20 @@ number_by _ = pos 0
 abbrev pub opening_of : Option Entity → ℤ
 opening_of found = option_map_or (λ entity. option_map_or number_by (field_of entity 2) (pos 0)) found (pos 0)
 
--- the values of the variables after one more entry: an assignment sets the variable that it names
-abbrev pub vars_by : (ℕ → Option Entity) → (ℕ → ℤ) → Entry → ℕ → ℤ
-vars_by entities vars (Assign n x) v = if target_of (entities n) == v then x else vars v
-vars_by entities vars _ v = vars v
+-- the values that the variables of a store open with
+abbrev pub opening_vars : List Entity → ℕ → ℤ
+opening_vars store v = opening_of (entity_at store v)
 
--- the values of the variables after these entries
-abbrev pub vars_from : (ℕ → Option Entity) → (ℕ → ℤ) → List Entry → ℕ → ℤ
-vars_from entities vars [] v = vars v
-vars_from entities vars (x ∷ t) v = vars_from entities (λ n. vars_by entities vars x n) t v
+-- the values of the variables after one more entry: an assignment sets the variable that it names in the store
+abbrev pub vars_with : List Entity → (ℕ → ℤ) → Entry → ℕ → ℤ
+vars_with store vars (Assign n x) v = if target_of (entity_at store n) == v then x else vars v
+vars_with store vars _ v = vars v
 
--- the values of the variables of a store after these entries
-abbrev pub vars_at : (ℕ → Option Entity) → List Entry → ℕ → ℤ
-vars_at entities t v = vars_from entities (λ n. opening_of (entities n)) t v
+-- the values of the variables after these entries, each assignment read off the store there
+abbrev pub vars_from : List Edit → List Entity → (ℕ → ℤ) → List Entry → ℕ → ℤ
+vars_from script store vars [] v = vars v
+vars_from script store vars (x ∷ t) v = vars_from script (plan_with script store x) (vars_with store vars x) t v
+
+-- the values of the variables of a project after these entries
+abbrev pub vars_after : List Edit → List Entity → List Entry → ℕ → ℤ
+vars_after script store t v = vars_from script store (opening_vars store) t v

@@ -25,11 +25,11 @@ use Rattle.project_read.specs.Typing.{all_typed}
 use Rattle.exec_tree.specs.declared.error.TreeErr.{TreeErr}
 use Rattle.exec_tree.specs.TreeFault.{first_tree_fault}
 use Rattle.exec_tree.specs.Built.{main_of, steps_of}
-use Rattle.project_read.specs.Faults.{has_def, IsLeastFault}
+use Rattle.edit_rules.specs.Faults.{has_def, IsLeastFault}
 use Rattle.project_read.specs.Holds.{Project, HasExchange, HasEntities, HasStore, HasTree, Holds}
 use Rattle.project_read.specs.Refuses.{Refuses}
-use Rattle.project_read.proofs.Faulting.{each}
-use Rattle.project_read.specs.declared.project.TheConstants.{MAX_PROJECT_BYTES}
+use Rattle.edit_rules.proofs.FaultLemmas.{each}
+use Rattle.project_read.specs.declared.limits.TheConstants.{MAX_PROJECT_BYTES}
 
 is_test : (b : Bool) (p q : IsTrue b) → p ≡ q
 is_test b p q = let set : IsProp (IsTrue b) = hlevel props in set p q
@@ -142,7 +142,6 @@ no_refusal one apart bytes p (reasons.Tree fault) h r =
     let treed : first_tree_fault (entity_at p.entities) (main_of p.entities) ≡ None = subst (λ (n : ℕ). first_tree_fault (entity_at p.entities) n ≡ None) h.has.main_is h.has.treed in
     let bad : unfit fault ≡ None = sym r.2 ∙ sym (ap (λ (xs : List Entity). first_tree_fault (entity_at xs) (main_of xs)) same) ∙ treed in
     absurd (cc)
-no_refusal one apart bytes p reasons.NotBuilt h r = r
 no_refusal one apart bytes p (reasons.Definition n fault) h r = no_least one bytes p r.0 n fault h r.1 r.2
 no_refusal one apart bytes p (reasons.NoStep n) h r = r
 
@@ -255,7 +254,6 @@ one_refusal one apart single bytes reasons.TooLong (reasons.Attribute e) h k = a
 one_refusal one apart single bytes reasons.TooLong (reasons.Store e) h k = absurd (too_long bytes h k.1.has.short)
 one_refusal one apart single bytes reasons.TooLong (reasons.Tree f) h k = absurd (too_long bytes h k.1.has.has.short)
 one_refusal one apart single bytes reasons.TooLong (reasons.Definition n e) h k = absurd (too_long bytes h k.1.has.has.has.short)
-one_refusal one apart single bytes reasons.TooLong reasons.NotBuilt h k = absurd k
 one_refusal one apart single bytes reasons.TooLong (reasons.NoStep n) h k = absurd k
 one_refusal one apart single bytes (reasons.Read e) reasons.TooLong h k = absurd (too_long bytes k (said bytes e h).short)
 one_refusal one apart single bytes (reasons.Read e) (reasons.Read f) h k = same_fault single bytes e f (said bytes e h) (said bytes f k)
@@ -263,7 +261,6 @@ one_refusal one apart single bytes (reasons.Read e) (reasons.Attribute f) h k = 
 one_refusal one apart single bytes (reasons.Read e) (reasons.Store f) h k = absurd (no_text apart bytes e k.1.exchange (said bytes e h) k.1.has)
 one_refusal one apart single bytes (reasons.Read e) (reasons.Tree f) h k = absurd (no_text apart bytes e k.1.has.exchange (said bytes e h) k.1.has.has)
 one_refusal one apart single bytes (reasons.Read e) (reasons.Definition n f) h k = absurd (no_text apart bytes e k.1.has.has.exchange (said bytes e h) k.1.has.has.has)
-one_refusal one apart single bytes (reasons.Read e) reasons.NotBuilt h k = absurd k
 one_refusal one apart single bytes (reasons.Read e) (reasons.NoStep n) h k = absurd k
 one_refusal one apart single bytes (reasons.Attribute e) reasons.TooLong h k = absurd (too_long bytes k h.1.short)
 one_refusal one apart single bytes (reasons.Attribute e) (reasons.Read f) h k = absurd (no_text apart bytes f h.0 (said bytes f k) h.1)
@@ -271,7 +268,6 @@ one_refusal one apart single bytes (reasons.Attribute e) (reasons.Attribute f) h
 one_refusal one apart single bytes (reasons.Attribute e) (reasons.Store f) h k = absurd (not_typed one bytes e h.0 k.0 h.1 h.2 k.1)
 one_refusal one apart single bytes (reasons.Attribute e) (reasons.Tree f) h k = absurd (not_typed one bytes e h.0 k.0 h.1 h.2 k.1.has)
 one_refusal one apart single bytes (reasons.Attribute e) (reasons.Definition n f) h k = absurd (not_typed one bytes e h.0 k.0.entities h.1 h.2 k.1.has.has)
-one_refusal one apart single bytes (reasons.Attribute e) reasons.NotBuilt h k = absurd k
 one_refusal one apart single bytes (reasons.Attribute e) (reasons.NoStep n) h k = absurd k
 one_refusal one apart single bytes (reasons.Store e) reasons.TooLong h k = absurd (too_long bytes k h.1.has.short)
 one_refusal one apart single bytes (reasons.Store e) (reasons.Read f) h k = absurd (no_text apart bytes f h.1.exchange (said bytes f k) h.1.has)
@@ -279,7 +275,6 @@ one_refusal one apart single bytes (reasons.Store e) (reasons.Attribute f) h k =
 one_refusal one apart single bytes (reasons.Store e) (reasons.Store f) h k = ap reasons.Store (same_store one bytes e f h.0 k.0 h.1 h.2 k.1 k.2)
 one_refusal one apart single bytes (reasons.Store e) (reasons.Tree f) h k = absurd (not_built one bytes e h.0 k.0 h.1 h.2 k.1)
 one_refusal one apart single bytes (reasons.Store e) (reasons.Definition n f) h k = absurd (not_built one bytes e h.0 k.0.entities h.1 h.2 k.1.has)
-one_refusal one apart single bytes (reasons.Store e) reasons.NotBuilt h k = absurd k
 one_refusal one apart single bytes (reasons.Store e) (reasons.NoStep n) h k = absurd k
 one_refusal one apart single bytes (reasons.Tree e) reasons.TooLong h k = absurd (too_long bytes k h.1.has.has.short)
 one_refusal one apart single bytes (reasons.Tree e) (reasons.Read f) h k = absurd (no_text apart bytes f h.1.has.exchange (said bytes f k) h.1.has.has)
@@ -287,7 +282,6 @@ one_refusal one apart single bytes (reasons.Tree e) (reasons.Attribute f) h k = 
 one_refusal one apart single bytes (reasons.Tree e) (reasons.Store f) h k = absurd (not_built one bytes f k.0 h.0 k.1 k.2 h.1)
 one_refusal one apart single bytes (reasons.Tree e) (reasons.Tree f) h k = ap reasons.Tree (same_unfit one bytes e f h.0 k.0 h.1 h.2 k.1 k.2)
 one_refusal one apart single bytes (reasons.Tree e) (reasons.Definition n f) h k = absurd (not_treed one bytes e h.0 k.0 h.1 h.2 k.1)
-one_refusal one apart single bytes (reasons.Tree e) reasons.NotBuilt h k = absurd k
 one_refusal one apart single bytes (reasons.Tree e) (reasons.NoStep n) h k = absurd k
 one_refusal one apart single bytes (reasons.Definition n e) reasons.TooLong h k = absurd (too_long bytes k h.1.has.has.has.short)
 one_refusal one apart single bytes (reasons.Definition n e) (reasons.Read f) h k = absurd (no_text apart bytes f h.1.has.has.exchange (said bytes f k) h.1.has.has.has)
@@ -295,7 +289,5 @@ one_refusal one apart single bytes (reasons.Definition n e) (reasons.Attribute f
 one_refusal one apart single bytes (reasons.Definition n e) (reasons.Store f) h k = absurd (not_built one bytes f k.0 h.0.entities k.1 k.2 h.1.has)
 one_refusal one apart single bytes (reasons.Definition n e) (reasons.Tree f) h k = absurd (not_treed one bytes f k.0 h.0 k.1 k.2 h.1)
 one_refusal one apart single bytes (reasons.Definition n e) (reasons.Definition m f) h k = same_least one bytes h.0 k.0 n m e f h.1 h.2 k.1 k.2
-one_refusal one apart single bytes (reasons.Definition n e) reasons.NotBuilt h k = absurd k
 one_refusal one apart single bytes (reasons.Definition n e) (reasons.NoStep m) h k = absurd k
-one_refusal one apart single bytes reasons.NotBuilt s h k = absurd h
 one_refusal one apart single bytes (reasons.NoStep n) s h k = absurd h

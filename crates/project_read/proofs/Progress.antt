@@ -17,7 +17,7 @@ use Rattle.entity_types.specs.declared.entity.Entity.{Entity}
 use Rattle.entity_read.specs.declared.error.TypeErr.{TypeErr}
 use Rattle.entity_read.specs.Typed.{EntityTree, entity_of, typed_of}
 use Rattle.project_read.specs.declared.gathered.Gathered.{Gathered}
-use Rattle.project_read.specs.declared.project.TheConstants.{MAX_PROJECT_BYTES}
+use Rattle.project_read.specs.declared.limits.TheConstants.{MAX_PROJECT_BYTES}
 use Rattle.project_read.specs.declared.reason.ProjectReason.{ProjectReason}
 use Rattle.project_read.specs.declared.reason.ProjectReason.TheVariants as reasons
 use Rattle.project_read.specs.declared.reason.ProjectErr.{ProjectErr}
@@ -81,7 +81,6 @@ kept_fault items others es fs reasons.TooLong kept said = absurd said
 kept_fault items others es fs (reasons.Read f) kept said = absurd said
 kept_fault items others es fs (reasons.Store f) kept said = absurd said
 kept_fault items others es fs (reasons.Tree f) kept said = absurd said
-kept_fault items others es fs reasons.NotBuilt kept said = absurd said
 kept_fault items others es fs (reasons.Definition n f) kept said = absurd said
 kept_fault items others es fs (reasons.NoStep n) kept said = absurd said
 
@@ -91,7 +90,6 @@ kept_still items others es reasons.TooLong said = absurd said
 kept_still items others es (reasons.Read f) said = absurd said
 kept_still items others es (reasons.Store f) said = absurd said
 kept_still items others es (reasons.Tree f) said = absurd said
-kept_still items others es reasons.NotBuilt said = absurd said
 kept_still items others es (reasons.Definition n f) said = absurd said
 kept_still items others es (reasons.NoStep n) said = absurd said
 
@@ -172,7 +170,6 @@ text_typed bytes x (Err (Refused reasons.TooLong)) short text said = absurd said
 text_typed bytes x (Err (Refused (reasons.Read f))) short text said = absurd said
 text_typed bytes x (Err (Refused (reasons.Store f))) short text said = absurd said
 text_typed bytes x (Err (Refused (reasons.Tree f))) short text said = absurd said
-text_typed bytes x (Err (Refused reasons.NotBuilt)) short text said = absurd said
 text_typed bytes x (Err (Refused (reasons.Definition n f))) short text said = absurd said
 text_typed bytes x (Err (Refused (reasons.NoStep n))) short text said = absurd said
 text_typed bytes x (Err NoMemory) short text said = tt

@@ -6,9 +6,9 @@ use Rattle.entity_read.specs.declared.error.TypeErr.{TypeErr}
 use Rattle.entity_read.specs.declared.error.TypeErr.TheVariants as types
 use Rattle.project_store.specs.declared.error.StoreErr.{StoreErr}
 use Rattle.project_store.specs.declared.error.StoreErr.TheVariants as stores
-use Rattle.exec_tree.specs.declared.error.TreeErr.{TreeErr}
-use Rattle.exec_tree.specs.declared.error.TreeErr.TheVariants as trees
-use Rattle.project_read.specs.declared.reason.ProjectReason.TheVariants.{Read, Attribute, Store, Tree}
+use Rattle.edit_rules.specs.declared.error.ProjErr.{ProjErr}
+use Rattle.edit_rules.specs.declared.error.ProjErr.TheVariants as projects
+use Rattle.project_read.specs.declared.reason.ProjectReason.TheVariants.{Read, Attribute, Store, Tree, Definition}
 use Rattle.project_read.specs.declared.reason.ProjectErr.{ProjectErr}
 use Rattle.project_read.specs.declared.reason.ProjectErr.TheVariants.{Refused, NoMemory}
 
@@ -25,6 +25,7 @@ abbrev pub from_store : StoreErr → ProjectErr
 from_store stores.NoMemory = NoMemory
 from_store fault = Refused (Store fault)
 
-abbrev pub from_tree : TreeErr → ProjectErr
-from_tree trees.NoMemory = NoMemory
-from_tree fault = Refused (Tree fault)
+abbrev pub from_accept : ProjErr → ProjectErr
+from_accept (projects.Tree fault) = Refused (Tree fault)
+from_accept (projects.Definition n fault) = Refused (Definition n fault)
+from_accept projects.NoMemory = NoMemory

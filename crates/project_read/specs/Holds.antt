@@ -10,8 +10,8 @@ use Rattle.project_store.specs.Build.{fault_of}
 use Rattle.exec_tree.specs.TreeFault.{first_tree_fault}
 use Rattle.exec_tree.specs.Built.{main_of, steps_of}
 use Rattle.project_read.specs.Typing.{all_typed}
-use Rattle.project_read.specs.Faults.{has_def}
-use Rattle.project_read.specs.declared.project.TheConstants.{MAX_PROJECT_BYTES}
+use Rattle.edit_rules.specs.Faults.{has_def}
+use Rattle.project_read.specs.declared.limits.TheConstants.{MAX_PROJECT_BYTES}
 
 -- a project: its entities in file order, the number of its main workplan, and the workingsteps of the tree from there on, in preorder
 pub record Project : Type 0 where

@@ -1,5 +1,4 @@
 pub mod Typing
-pub mod Faults
 pub mod Holds
 pub mod Refuses
 pub mod Errors

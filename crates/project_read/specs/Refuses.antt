@@ -10,11 +10,11 @@ use Rattle.project_store.specs.Build.{fault_of}
 use Rattle.exec_tree.specs.TreeFault.{first_tree_fault}
 use Rattle.exec_tree.specs.Built.{main_of}
 use Rattle.project_read.specs.declared.reason.ProjectReason.{ProjectReason}
-use Rattle.project_read.specs.declared.reason.ProjectReason.TheVariants.{TooLong, Read, Attribute, Store, Tree, Definition, NotBuilt, NoStep}
+use Rattle.project_read.specs.declared.reason.ProjectReason.TheVariants.{TooLong, Read, Attribute, Store, Tree, Definition, NoStep}
 use Rattle.project_read.specs.Typing.{all_typed}
-use Rattle.project_read.specs.Faults.{IsLeastFault}
+use Rattle.edit_rules.specs.Faults.{IsLeastFault}
 use Rattle.project_read.specs.Holds.{Project, HasExchange, HasEntities, HasStore, HasTree}
-use Rattle.project_read.specs.declared.project.TheConstants.{MAX_PROJECT_BYTES}
+use Rattle.project_read.specs.declared.limits.TheConstants.{MAX_PROJECT_BYTES}
 
 -- of the reasons for which bytes aren't read want of memory is none
 abbrev pub Refuses : List ℕ → ProjectReason → Type 0
@@ -26,6 +26,5 @@ Refuses bytes (Attribute fault) = (x : ExchangeTree) × HasExchange bytes x × (
 Refuses bytes (Store fault) = (entities : List Entity) × HasEntities bytes entities × (fault_of entities ≡ Some fault)
 Refuses bytes (Tree fault) = (entities : List Entity) × HasStore bytes entities × (first_tree_fault (entity_at entities) (main_of entities) ≡ Some fault)
 Refuses bytes (Definition n fault) = (p : Project) × HasTree bytes p × IsLeastFault p.entities p.steps n fault
--- that this stage can't run a project, or that a number is no workingstep's, is no matter of the bytes alone
-Refuses bytes NotBuilt = ⊥
+-- that a number is no workingstep's is no matter of the bytes alone
 Refuses bytes (NoStep n) = ⊥

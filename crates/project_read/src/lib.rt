@@ -3,13 +3,12 @@
 //! | module | what is in it | calls |
 //! |---|---|---|
 //! | reading | from bytes to a project | `project_in` |
-//! | project | a project | `Project` |
+//! | limits | how large a project file may be | `MAX_PROJECT_BYTES` |
 //! | reason | why a project is refused | `ProjectReason`, `ProjectErr` |
 //! | laws | bytes hold one project at most, and are refused for one reason at most | `project_laws` |
 //! | slices | the entities of a file, slice after slice | |
 //! | gathered | what is kept of the slices so far | |
 //! | entities | the entities of instances | |
-//! | steps | the definitions of the tree's workingsteps | |
 //!
 //! Its tests stand in the crate definition_tests.
 #![tactic(auto)]
@@ -17,13 +16,12 @@
 mod entities;
 mod gathered;
 mod laws;
-mod project;
+mod limits;
 mod reading;
 mod reason;
 mod slices;
-mod steps;
 
 pub use laws::project_laws;
-pub use project::{MAX_PROJECT_BYTES, Project};
+pub use limits::MAX_PROJECT_BYTES;
 pub use reading::project_in;
 pub use reason::{ProjectErr, ProjectReason};

@@ -6,13 +6,11 @@ ghost use Rattle.project_store.specs.Entities.{numbers_of};
 ghost use Rattle.project_read.specs.Holds.{HasEntities, HasStore};
 ghost use Rattle.project_read.specs.Reads.{Reads, ReadsStore};
 
-use crate::project::{MAX_PROJECT_BYTES, Project};
+use crate::limits::MAX_PROJECT_BYTES;
 use crate::reason::ProjectErr;
 use crate::slices::entities_in;
-use crate::steps::steps_of;
+use edit_rules::Project;
 use entity_types::Entity;
-use exec_tree::build;
-use exec_tree::laws::trees_tell;
 use project_store::Store;
 use std::alloc::Global;
 
@@ -20,10 +18,7 @@ use std::alloc::Global;
 fn project_of(alloc: Global, store: Store) -> Result<Project, ProjectErr>
     ensures { (bytes : List ℕ) → HasStore bytes store → Reads bytes result }
 {
-    let tree = build(alloc, &store)?;
-    trees_tell();
-    let steps = steps_of(alloc, &store, tree.steps())?;
-    Ok(Project { store, tree, steps })
+    Ok(Project::accept(alloc, store)?)
 }
 
 /// The store of a file's entities.
@@ -48,7 +43,7 @@ fn store_in(alloc: Global, bytes: &[u8]) -> Result<Store, ProjectErr>
 /// the tree has a definition.
 ///
 /// # Errors
-/// The first reason why the bytes hold none, in the order of `ProjectReason`, but never `TooLong`, `NotBuilt` or `NoStep`; or want of memory.
+/// The first reason why the bytes hold none, in the order of `ProjectReason`, but never `TooLong` or `NoStep`; or want of memory.
 pub fn project_in(alloc: Global, bytes: &[u8]) -> Result<Project, ProjectErr>
     requires { length bytes.now ≤ MAX_PROJECT_BYTES }
     ensures { Reads bytes.now result }

@@ -2,6 +2,7 @@
 
 ghost use Rattle.std.specs.Prelude.{◌≡◌};
 
+use edit_rules::ProjErr;
 use entity_read::TypeErr;
 use exec_tree::TreeErr;
 use nc_base::{NoMemory, Number};
@@ -26,8 +27,6 @@ pub enum ProjectReason {
     Tree(TreeErr),
     /// The workingstep has no definition: of the tree's workingsteps with a fault the one of the least number.
     Definition(Number, DefFault),
-    /// The tree has a node that is neither the main workplan nor a workingstep directly in it: this stage of the program can't run it.
-    NotBuilt,
     /// The number isn't that of a workingstep of the tree.
     NoStep(Number),
 }
@@ -110,15 +109,18 @@ impl From<StoreErr> for ProjectErr {
     }
 }
 
-impl From<TreeErr> for ProjectErr {
-    ghost use Rattle.project_read.specs.Errors.{from_tree};
+impl From<ProjErr> for ProjectErr {
+    ghost use Rattle.project_read.specs.Errors.{from_accept};
 
-    ghost from_gives = { λ t e. e ≡ from_tree t };
+    ghost from_gives = { λ p e. e ≡ from_accept p };
 
-    fn from(e: TreeErr) -> ProjectErr {
+    fn from(e: ProjErr) -> ProjectErr {
         match e {
-            TreeErr::NoMemory => ProjectErr::NoMemory,
-            fault => ProjectErr::Refused(ProjectReason::Tree(fault)),
+            ProjErr::Tree(fault) => ProjectErr::Refused(ProjectReason::Tree(fault)),
+            ProjErr::Definition(n, fault) => {
+                ProjectErr::Refused(ProjectReason::Definition(n, fault))
+            }
+            ProjErr::NoMemory => ProjectErr::NoMemory,
         }
     }
 }

@@ -9,7 +9,7 @@ ghost use Rattle.project_read.specs.Reads.{ReadsEntities};
 
 use crate::entities::entities_of;
 use crate::gathered::Gathered;
-use crate::project::MAX_PROJECT_BYTES;
+use crate::limits::MAX_PROJECT_BYTES;
 use crate::reason::ProjectErr;
 use entity_types::Entity;
 use nc_base::NoMemory;

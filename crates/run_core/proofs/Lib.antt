@@ -1,5 +1,10 @@
-pub mod Among
-pub mod Segments
-pub mod Standing
-pub mod Legality
-pub mod Growing
+pub mod SlotLemmas
+pub mod DefinitionLemmas
+pub mod OpeningLemmas
+pub mod QuestionLemmas
+pub mod KindLemmas
+pub mod PickLemmas
+pub mod MadeLemmas
+pub mod FollowLemmas
+pub mod StateLemmas
+pub mod CoreLemmas

@@ -2,8 +2,21 @@
 //! path_tests.
 #![tactic(auto)]
 
-mod plain;
+mod definitions;
+mod free;
+mod idle;
+mod marks;
+mod named;
+mod open_steps;
 mod planning;
+mod questions;
+mod replaying;
+mod standings;
+mod state;
+mod variables;
 
-pub use plain::run;
+pub use free::Action;
+pub use named::{RunCore, RunName};
 pub use planning::plan_of;
+pub use replaying::replay;
+pub use standings::Standing;

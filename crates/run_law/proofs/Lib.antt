@@ -2,7 +2,9 @@ pub mod AgreeLemmas
 pub mod AheadLemmas
 pub mod EndingLemmas
 pub mod GrowthLemmas
+pub mod LengthLemmas
 pub mod MadeLemmas
+pub mod MoveLemmas
 pub mod RoundLemmas
 pub mod Rows
 pub mod StuckLemmas

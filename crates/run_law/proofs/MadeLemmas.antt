@@ -23,7 +23,7 @@ use Rattle.path_blocks.specs.declared.block.Block.{Block as PathBlock}
 no_way : false ≡ true → ⊥
 no_way e = cc
 
-stage_snoc : (n : ℕ) (o : Option ℕ) (t : List Entry) (x : Entry) → stage_from n o (t ++ x ∷ []) ≡ stage_step n (stage_from n o t) x
+pub stage_snoc : (n : ℕ) (o : Option ℕ) (t : List Entry) (x : Entry) → stage_from n o (t ++ x ∷ []) ≡ stage_step n (stage_from n o t) x
 stage_snoc n o [] x = refl
 stage_snoc n o (y ∷ t) x = stage_snoc n (stage_step n o y) t x
 

@@ -7,4 +7,5 @@ pub mod Tested
 pub mod Replay
 pub mod Ahead
 pub mod Agree
+pub mod Length
 pub mod PlainRules

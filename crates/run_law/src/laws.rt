@@ -2,12 +2,16 @@
 
 ghost use Rattle.std.specs.Prelude.{◌≡◌, ℕ, List, [], ◌∷◌, ◌++◌, true, false, Some, None, take, ◌↔◌, ◌≢◌, ◌<◌, length, slice_get, ◌≤◌, ◌+◌};
 ghost use Rattle.std.specs.List.{list_all};
-ghost use Rattle.exec_tree.specs.Exec.{has, AreDistinct};
+ghost use Rattle.std.specs.Option.{option_to_list};
+ghost use Rattle.path_blocks.specs.declared.limits.TheConstants.{MAX_BLOCKS};
+ghost use Rattle.nc_base.specs.declared.verdict.Verdict.{Verdict};
+ghost use Rattle.exec_tree.specs.Exec.{Exec, nodes, has, AreDistinct};
 ghost use Rattle.trace_law.specs.Of.{number_of};
 ghost use Rattle.trace_law.specs.Part.{Part};
-ghost use Rattle.trace_law.specs.State.{marks, dispatched};
+ghost use Rattle.trace_law.specs.State.{marks, marked, sent, dispatched, stage, stage_step};
 ghost use Rattle.trace_law.specs.Offer.{offer, IsOffered};
 ghost use Rattle.run_log.specs.declared.entry.Entry.{Entry};
+ghost use Rattle.run_log.specs.declared.entry.Entry.TheVariants.{Edit};
 ghost use Rattle.exec_tree.specs.declared.role.Role.TheVariants.{Waiting};
 ghost use Rattle.run_law.specs.Rules.{Rules};
 ghost use Rattle.run_law.specs.Fits.{Fits, HasValues, plain, next_of, is_stuck, is_due, is_enabled, judged};
@@ -18,9 +22,10 @@ ghost use Rattle.run_law.specs.Agree.{HasOneMore};
 ghost use Rattle.run_law.specs.Replay.{made, has_ended, replay, rounds, AreChannels};
 ghost use Rattle.run_law.specs.Ahead.{unsent, without, window_without};
 ghost use Rattle.run_law.specs.Sound.{IsSound};
+ghost use Rattle.run_law.specs.Length.{HasNoLoop, HasNumbers, is_within, most_entries};
 
 use trace_law::laws::{
-    blocks_are_counted, open_can_go_on, part_by_steps, what_can_go_on_is_open,
+    blocks_are_counted, open_can_go_on, part_by_steps, part_of_own_nodes, what_can_go_on_is_open,
     what_is_offered_follows, whole_where_nothing_is_next,
 };
 
@@ -106,5 +111,27 @@ pub fn scripts_grow()
     ensures withdraw { (r q : Rules) (at : ℕ) (t : List Entry) → HasOneMore r q at t → Legal q t → judged t ≤ length r.edits → Legal r t }
 {
     what_is_offered_follows();
+    legal_runs();
+}
+
+/// With one more entry the marks that are set, the steps that were dispatched, the blocks that a step has, the entries of nodes and the
+/// count of judged edits change as that entry says.
+pub fn logs_move()
+    ensures marks { (t : List Entry) (x : Entry) → marks (t ++ x ∷ []) ≡ marks t ++ option_to_list (marked x) }
+    ensures sent { (t : List Entry) (x : Entry) → sent (t ++ x ∷ []) ≡ sent t ++ option_to_list (dispatched x) }
+    ensures stage { (t : List Entry) (x : Entry) (n : ℕ) → stage n (t ++ x ∷ []) ≡ stage_step n (stage n t) x }
+    ensures node { (t : List Entry) (x : Entry) (n : ℕ) → number_of x ≡ Some n → (plain (t ++ x ∷ []) ≡ plain t ++ x ∷ []) × (judged (t ++ x ∷ []) ≡ judged t) }
+    ensures edit { (t : List Entry) (i : ℕ) (w : Verdict) → (plain (t ++ Edit i w ∷ []) ≡ plain t) × (judged (t ++ Edit i w ∷ []) ≡ judged t + 1) }
+{}
+
+/// A run of a tree without loops has only so many entries: three for each node, and for each workingstep those of the longest path with its
+/// dispatch and its end. Of a legal run this holds beside its edits.
+pub fn runs_are_short()
+    ensures part { (e : Exec) (t : List Entry) → HasNoLoop e → HasNumbers e → list_all is_within t ≡ true → Part e t → length t ≤ most_entries e }
+    ensures begun { (e : Exec) (t : List Entry) → HasNoLoop e → HasNumbers e → 0 < length (nodes e) → list_all is_within t ≡ true → Part e t → length t < most_entries e }
+    ensures legal { (r : Rules) (t : List Entry) → IsSound r → Legal r t → HasNoLoop (r.tree t) → HasNumbers (r.tree t) → 0 < length (nodes (r.tree t))
+        → ((u : List Entry) (n : ℕ) → length (r.path u n) ≤ MAX_BLOCKS) → length t < length r.edits + most_entries (r.tree t) }
+{
+    part_of_own_nodes();
     legal_runs();
 }

@@ -1,7 +1,10 @@
 //! A machine controller that runs STEP-NC programs.
 #![tactic(auto)]
 
+mod counted_files;
+
 use controller::{Status, top};
+use counted_files::CountedFiles;
 use nc_base::{NcText, NoMemory};
 use nc_outside::{FreeGate, HostFiles, HostSink};
 use std::process::ExitCode;
@@ -22,26 +25,34 @@ fn words_of(rt: HostRuntime) -> Result<Vec<NcText>, NoMemory> {
     Ok(words)
 }
 
-/// The name of the project file, which is the second word of each command that reads one.
-fn project_name(words: &[NcText]) -> &str {
-    match words {
-        [_, name, ..] => str::from_utf8(name.bytes()).unwrap_or("?"),
-        _ => "?",
+/// What a person calls the file of a command that was the last of so many to be asked for, and its name: the project is the second word of
+/// each command that reads one, and its schedule, which is read behind it, the fourth.
+fn file_asked(words: &[NcText], asked: u8) -> (&str, &str) {
+    match (words, asked) {
+        ([_, _, _, name, ..], 2) => ("schedule", str::from_utf8(name.bytes()).unwrap_or("?")),
+        ([_, name, ..], _) => ("project", str::from_utf8(name.bytes()).unwrap_or("?")),
+        _ => ("project", "?"),
     }
 }
 
 /// Says in one line on standard error what a person has to know beside the status and the refusal line, with what the host said of a file
-/// that it could not read. Whether that line can be written changes nothing.
-fn tell(rt: HostRuntime, words: &[NcText], status: Status, said: Option<&io::Error>) {
+/// that it could not read, the last of so many that were asked for. Whether that line can be written changes nothing.
+fn tell(
+    rt: HostRuntime,
+    words: &[NcText],
+    status: Status,
+    asked: u8,
+    said: Option<&io::Error>,
+) {
     let _ = match status {
         Status::BadWords(_) => eprintln!(rt; "stepnc: `stepnc --help` shows the commands"),
         Status::ReadFault => {
-            let name = project_name(words);
+            let (kind, name) = file_asked(words, asked);
             match said {
                 Some(error) => {
-                    eprintln!(rt; "stepnc: the project file {name} could not be read: {error}")
+                    eprintln!(rt; "stepnc: the {kind} file {name} could not be read: {error}")
                 }
-                None => eprintln!(rt; "stepnc: the project file {name} could not be read"),
+                None => eprintln!(rt; "stepnc: the {kind} file {name} could not be read"),
             }
         }
         Status::WriteFault => {
@@ -52,19 +63,23 @@ fn tell(rt: HostRuntime, words: &[NcText], status: Status, said: Option<&io::Err
         | Status::Blocked
         | Status::RunLimit
         | Status::Written
-        | Status::ProjectRefused(_) => Ok(()),
+        | Status::ProjectRefused(_)
+        | Status::ScriptRefused(_) => Ok(()),
     };
 }
 
 /// Does what the words ask for, with the host's files and standard output.
 fn serve(rt: HostRuntime, words: &[NcText]) -> Result<Status, NoMemory> {
-    let mut files = HostFiles::new(&rt);
+    let mut files = CountedFiles {
+        files: HostFiles::new(&rt),
+        asked: 0,
+    };
     let mut sink = HostSink::new(rt.alloc(), io::writer(&rt))?;
     let mut status = top(&rt, words, &mut files, &mut sink, &FreeGate);
     if status != Status::WriteFault && sink.flush().is_err() {
         status = Status::WriteFault;
     }
-    tell(rt, words, status, files.said());
+    tell(rt, words, status, files.asked, files.files.said());
     Ok(status)
 }
 
@@ -78,7 +93,7 @@ fn main(rt: HostRuntime) -> ExitCode {
     let status = match answer(rt) {
         Ok(status) => status,
         Err(NoMemory) => {
-            tell(rt, &[], Status::NoMemory, None);
+            tell(rt, &[], Status::NoMemory, 0, None);
             Status::NoMemory
         }
     };

@@ -7,18 +7,19 @@ returns-in_err-hyphen_at c =
     let p = err_from_is_err_and c.from_residual-in_err-hyphen_at.result c.from_residual-in_err-hyphen_at.ensures.1 in
     rw (p.1, p.2) (replay_stops_2 c.args.words.now c.in_ok-project.project.now c.in_err-hyphen_at.field-0.0 c.requires c.in_ok-project.ensures c.in_err-hyphen_at.ensures)
 
-pub returns-in_err-hyphen_at-2 : goal.returns-in_err-hyphen_at-2
-returns-in_err-hyphen_at-2 c =
-    let p = err_from_is_err_and c.from_residual-in_err-hyphen_at-2.result c.from_residual-in_err-hyphen_at-2.ensures.1 in
-    rw (p.1, p.2) (replay_stops_3 c.args.words.now c.in_ok-project.project.now c.in_err-hyphen_at-2.field-0.0 c.requires c.in_ok-project.ensures c.in_ok-hyphen_at.ensures c.in_err-hyphen_at-2.ensures)
+pub returns-in_err-schedule : goal.returns-in_err-schedule
+returns-in_err-schedule c =
+    let p = err_from_is_err_and c.from_residual-in_err-schedule.result c.from_residual-in_err-schedule.ensures.1 in
+    rw (p.1, p.2) (replay_stops_3 c.args.words.now c.in_ok-project.project.now c.in_err-schedule.field-0.0 c.requires c.in_ok-project.ensures c.in_ok-hyphen_at.ensures c.in_err-schedule.ensures)
 
 pub returns-in_err-limit : goal.returns-in_err-limit
 returns-in_err-limit c =
     let p = err_from_is_err_and c.from_residual-in_err-limit.result c.from_residual-in_err-limit.ensures.1 in
-    rw (p.1, p.2) (replay_stops_4 c.args.words.now c.in_ok-project.project.now c.in_err-limit.field-0.0 c.requires c.in_ok-project.ensures c.in_ok-hyphen_at.ensures c.in_ok-hyphen_at-2.ensures c.in_err-limit.ensures)
+    rw (p.1, p.2) (replay_stops_4 c.args.words.now c.in_ok-project.project.now c.in_ok-schedule.schedule.now c.in_err-limit.field-0.0 c.requires c.in_ok-project.ensures c.in_ok-hyphen_at.ensures c.in_ok-schedule.ensures
+    c.in_err-limit.ensures)
 
 pub returns-in_err-end_at : goal.returns-in_err-end_at
 returns-in_err-end_at c =
     let p = err_from_is_err_and c.from_residual-in_err-end_at.result c.from_residual-in_err-end_at.ensures.1 in
-    rw (p.1, p.2) (replay_stops_5 c.args.words.now c.in_ok-project.project.now c.in_ok-limit.ensures.0 c.in_err-end_at.field-0.0 c.requires c.in_ok-project.ensures c.in_ok-hyphen_at.ensures c.in_ok-hyphen_at-2.ensures
+    rw (p.1, p.2) (replay_stops_5 c.args.words.now c.in_ok-project.project.now c.in_ok-schedule.schedule.now c.in_ok-limit.ensures.0 c.in_err-end_at.field-0.0 c.requires c.in_ok-project.ensures c.in_ok-hyphen_at.ensures c.in_ok-schedule.ensures
     c.in_ok-limit.ensures.1 c.in_err-end_at.ensures)

@@ -1,0 +1,118 @@
+-- What the calls beneath the top calls answer.
+use Rattle.std.specs.Prelude.{◌≡◌, ◌⊎◌, ℕ, true, false, List, [], Option, Result, Ok, Err, IfSome}
+use Rattle.std.specs.Global.{Vec}
+use Rattle.nc_outside.specs.Outside.{Rose, Appends, AppendsFront}
+use Rattle.entity_types.specs.declared.entity.Entity.{Entity}
+use Rattle.project_read.specs.declared.reason.ProjectReason.{ProjectReason}
+use Rattle.project_read.specs.declared.reason.ProjectReason.TheVariants.{NoStep}
+use Rattle.edit_rules.specs.Faults.{is_among}
+use Rattle.project_read.specs.Holds.{Project, Holds}
+use Rattle.project_read.specs.Refuses.{Refuses}
+use Rattle.project_read.specs.Reads.{Reads}
+use Rattle.project_law.specs.Run.{IsRun}
+use Rattle.controller.specs.declared.answer.Answer.{Answer}
+use Rattle.controller.specs.declared.answer.Answer.TheVariants.{Refused, ScriptRefused, Ran, Shown}
+use Rattle.controller.specs.declared.answer.Stop.{Stop}
+use Rattle.controller.specs.declared.answer.Stop.TheVariants as stops
+use Rattle.controller.specs.declared.unheld.Unheld.{Unheld}
+use Rattle.controller.specs.declared.unheld.Unheld.TheVariants as unheld
+use Rattle.controller.specs.declared.status.Status.{Status}
+use Rattle.controller.specs.declared.status.Status.TheVariants.{WriteFault}
+use Rattle.controller.specs.Words.{Names, is_hyphen}
+use Rattle.controller.specs.ScheduleText.{IsScheduled, IsUnscheduled}
+use Rattle.controller.specs.Asked.{HoldsProject, IsStep, IsRight, replayed}
+use Rattle.controller.specs.Answer.{answer_status, answer_text}
+
+-- these are the file's bytes, where they are told
+abbrev pub AreBytesOf : Option (List ℕ) → List ℕ → Type 0
+AreBytesOf held bytes = IfSome held (λ told. bytes ≡ told)
+
+-- a reason that lies in the file alone
+abbrev pub IsOfFile : ProjectReason → Type 0
+IsOfFile (NoStep n) = ⊥
+IsOfFile reason = Unit {0}
+
+-- the file's bytes hold no project, for this reason
+abbrev pub IsRefusedFile : Option (List ℕ) → ProjectReason → Type 0
+IsRefusedFile held reason = IfSome held (λ bytes. Refuses bytes reason) × IsOfFile reason
+
+-- why a file gave nothing: the count of its faults rose, or memory ran out
+abbrev pub IsStopOf : ℕ → ℕ → Stop → Type 0
+IsStopOf before now stops.ReadFault = Rose before now
+IsStopOf before now stops.NoMemory = Unit {0}
+
+-- the project that a file holds, or why it gave none
+abbrev pub ReadsFile : Option (List ℕ) → ℕ → ℕ → Result (List Entity) Unheld → Type 0
+ReadsFile held before now (Ok p) = (bytes : List ℕ) × AreBytesOf held bytes × Reads bytes (Ok p)
+ReadsFile held before now (Err (unheld.Refused reason)) = IsRefusedFile held reason
+ReadsFile held before now (Err (unheld.ScriptRefused reason)) = ⊥
+ReadsFile held before now (Err (unheld.Stopped stop)) = IsStopOf before now stop
+
+-- why the schedule of this word gave nothing: it names a file, and the count of its faults rose, or memory ran out
+abbrev pub IsScheduleStop : List ℕ → ℕ → ℕ → Stop → Type 0
+IsScheduleStop word before now stops.ReadFault = (is_hyphen word ≡ false) × Rose before now
+IsScheduleStop word before now stops.NoMemory = Unit {0}
+
+-- the channels of the schedule that a word names, or why it gave none
+abbrev pub ReadsSchedule : (List ℕ → Option (List ℕ)) → List ℕ → ℕ → ℕ → Result (Vec ℕ) Unheld → Type 0
+ReadsSchedule holds word before now (Ok channels) = IsScheduled holds word channels.items
+ReadsSchedule holds word before now (Err (unheld.Refused reason)) = ⊥
+ReadsSchedule holds word before now (Err (unheld.ScriptRefused reason)) = IsUnscheduled holds word reason
+ReadsSchedule holds word before now (Err (unheld.Stopped stop)) = IsScheduleStop word before now stop
+
+-- the answer where a file gave nothing
+abbrev pub answer_without : Unheld → Result Answer Stop
+answer_without (unheld.Refused reason) = Ok (Refused reason)
+answer_without (unheld.ScriptRefused reason) = Ok (ScriptRefused reason)
+answer_without (unheld.Stopped stop) = Err stop
+
+-- the definition of workingstep n of the project, or that it has none such
+abbrev pub ShowsStep : Project → ℕ → Answer → Type 0
+ShowsStep p n (Refused (NoStep m)) = (m ≡ n) × (is_among p.steps n ≡ false)
+ShowsStep p n (Shown d) = IsStep p n d
+ShowsStep p n _ = ⊥
+
+-- what comes of a replay of the project in the file of this name, under the schedule that a word names
+abbrev pub Replays : (List ℕ → Option (List ℕ)) → List ℕ → List ℕ → ℕ → Answer → Type 0
+Replays holds name schedule limit (Refused reason) = IsRefusedFile (holds name) reason
+Replays holds name schedule limit (ScriptRefused reason) = (p : Project) × HoldsProject holds name p × IsUnscheduled holds schedule reason
+Replays holds name schedule limit (Ran t ending) =
+    (p : Project) × HoldsProject holds name p × (channels : List ℕ) × IsScheduled holds schedule channels × IsRun p.entities [] limit t ending × (t ≡ replayed p channels limit)
+Replays holds name schedule limit _ = ⊥
+
+-- or why nothing does: one of the two files failed, or memory ran out
+abbrev pub OrReplayStops : List ℕ → List ℕ → (List ℕ → ℕ) → (List ℕ → ℕ) → (Answer → Type 0) → Result Answer Stop → Type 0
+OrReplayStops name schedule before now Is (Ok a) = Is a
+OrReplayStops name schedule before now Is (Err stops.ReadFault) = Rose (before name) (now name) ⊎ ((is_hyphen schedule ≡ false) × Rose (before schedule) (now schedule))
+OrReplayStops name schedule before now Is (Err stops.NoMemory) = Unit {0}
+
+-- what comes of the path of workingstep n in a file
+abbrev pub Shows : Option (List ℕ) → ℕ → Answer → Type 0
+Shows held n (Refused (NoStep m)) = (m ≡ n) × IfSome held (λ bytes. (p : Project) × Holds bytes p × (is_among p.steps n ≡ false))
+Shows held n (Refused reason) = IsRefusedFile held reason
+Shows held n (Shown d) = (p : Project) × IfSome held (λ bytes. Holds bytes p) × IsStep p n d
+Shows held n _ = ⊥
+
+-- what comes of a file, or why nothing does
+abbrev pub OrStops : ℕ → ℕ → (Answer → Type 0) → Result Answer Stop → Type 0
+OrStops before now Is (Ok a) = Is a
+OrStops before now Is (Err stop) = IsStopOf before now stop
+
+-- the answer is right for the words
+abbrev pub IsAnswer : List (List ℕ) → (List ℕ → Option (List ℕ)) → Answer → Type 0
+IsAnswer ws holds a = IsRight ws holds (answer_status a) (answer_text a)
+
+-- why there is no answer to the words: a file failed that they name to read, or memory ran out
+abbrev pub IsStop : List (List ℕ) → (List ℕ → ℕ) → (List ℕ → ℕ) → Stop → Type 0
+IsStop ws before now stops.ReadFault = (name : List ℕ) × Names ws name × Rose (before name) (now name)
+IsStop ws before now stops.NoMemory = Unit {0}
+
+-- the answer to the words, or why there is none
+abbrev pub AnswersOrStops : List (List ℕ) → (List ℕ → Option (List ℕ)) → (List ℕ → ℕ) → (List ℕ → ℕ) → Result Answer Stop → Type 0
+AnswersOrStops ws holds before now (Ok a) = IsAnswer ws holds a
+AnswersOrStops ws holds before now (Err stop) = IsStop ws before now stop
+
+-- What a sink has become: the answer's text is put, or a front of it where the sink failed.
+abbrev pub IsPut : Option (List ℕ) → Option (List ℕ) → ℕ → ℕ → Answer → Status → Type 0
+IsPut old new before now a WriteFault = Rose before now × AppendsFront old new (answer_text a)
+IsPut old new before now a status = (answer_status a ≡ status) × Appends old new (answer_text a)

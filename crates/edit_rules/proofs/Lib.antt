@@ -1,0 +1,5 @@
+pub mod TreeLemmas
+pub mod FaultLemmas
+pub mod StepLemmas
+pub mod JudgeLemmas
+pub mod Rows

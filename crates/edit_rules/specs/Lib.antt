@@ -1,0 +1,5 @@
+pub mod Faults
+pub mod Errors
+pub mod Steps
+pub mod Project
+pub mod Judge

@@ -1,0 +1,22 @@
+//! What edits act on: a project, whose executables are a tree, and each of whose workingsteps has a definition; and the rules that an
+//! operator's edit of it is judged by.
+//!
+//! | module | what is in it | calls |
+//! |---|---|---|
+//! | project | a project | `Project` |
+//! | error | why a store is no project | `ProjErr` |
+//! | laws | what a verdict means | `rules_decide`, `accepted_edits_are_safe` |
+//! | steps | the definitions of the tree's workingsteps | |
+//! | indices | where the step of a number stands | |
+//!
+//! Worked rows of verdicts stand in proofs/Rows.antt; the tests stand in the crate definition_tests.
+#![tactic(auto)]
+
+mod error;
+mod indices;
+pub mod laws;
+mod project;
+mod steps;
+
+pub use error::ProjErr;
+pub use project::Project;

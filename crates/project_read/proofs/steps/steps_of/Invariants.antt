@@ -1,4 +1,0 @@
-use Rattle.project_read.proofs.steps.steps_of.Given as goal
-
-abbrev pub ghosts-steps_counted : goal.ghosts-steps_counted
-ghosts-steps_counted a = record { name = a.blank.name; parts = a.blank.parts }

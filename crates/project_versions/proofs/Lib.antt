@@ -1,0 +1,3 @@
+pub mod LeadingLemmas
+pub mod VersionLemmas
+pub mod UnreachedLemmas

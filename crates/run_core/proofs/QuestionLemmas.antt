@@ -1,0 +1,205 @@
+-- What is asked of the nodes where a run can go on is what the rules say of them.
+use Rattle.std.specs.Prelude.{◌≡◌, ◌==◌, ◌&&◌, ◌||◌, not, ℕ, Bool, true, false, if◌then◌else◌, is_some, is_none, List, [], ◌∷◌, find, Option, Some, None, IfSome}
+use Rattle.std.specs.List.{list_any, list_all, filter}
+use Rattle.std.proofs.Common.{refl, sym, ap, subst, ◌∙◌, arith, cond}
+use Rattle.std.proofs.lemmas.Bool.Decides.{nat_tests}
+use Rattle.entity_types.specs.declared.entity.Entity.{Entity}
+use Rattle.project_store.specs.Entities.{entity_at}
+use Rattle.exec_tree.specs.Exec.{Exec, nodes, has, works}
+use Rattle.exec_tree.specs.declared.role.Role.{Role}
+use Rattle.exec_tree.specs.declared.role.Role.TheVariants.{Cutting, Waiting, Free}
+use Rattle.exec_tree.specs.Role.{role_of}
+use Rattle.exec_tree.specs.TreeOf.{tree_of}
+use Rattle.exec_tree.specs.Built.{TreeValue, IsTreeOf, main_of, channel_in, channel_of, role_in}
+use Rattle.trace_law.specs.Below.{tree_in}
+use Rattle.trace_law.specs.Next.{next}
+use Rattle.trace_law.specs.State.{is_open, marks}
+use Rattle.run_log.specs.declared.entry.Entry.{Entry}
+use Rattle.run_law.specs.Rules.{Rules}
+use Rattle.run_law.specs.Fits.{plain, next_of, is_busy, is_enabled, may_go_on}
+use Rattle.run_law.specs.Endings.{waits, waits_by}
+use Rattle.run_law.specs.Replay.{ready}
+use Rattle.project_law.specs.ProjectRules.{rules_of}
+use Rattle.run_core.specs.declared.open_steps.OpenStep.{OpenStep}
+use Rattle.run_core.specs.State.{mark_in, slot_at, is_step_of, may_by, may_in, waits_said, waits_in}
+use Rattle.run_core.specs.Standings.{is_empty}
+use Rattle.run_core.specs.Kept.{IsOpenStep, AreOpen}
+
+-- ---- lists of numbers
+
+pub first_has : (n : ℕ) (ns : List ℕ) → has (n ∷ ns) n ≡ true
+first_has n ns = let e : (n == n) ≡ true = grind (arith, nat_tests) in rw e refl
+
+pub later_has : (n : ℕ) (ns : List ℕ) (m : ℕ) → has ns m ≡ true → has (n ∷ ns) m ≡ true
+later_has n ns m e = go (n == m)
+  where
+    go : (b : Bool) → (b || has ns m) ≡ true
+    go true = refl
+    go false = e
+
+pub find_same : (p q : ℕ → Bool) (ns : List ℕ) → ((n : ℕ) → has ns n ≡ true → p n ≡ q n) → find p ns ≡ find q ns
+find_same p q [] h = refl
+find_same p q (n ∷ ns) h =
+    ap (λ (b : Bool). cond b (Some n) (find p ns)) (h n (first_has n ns))
+    ∙ ap (λ (o : Option ℕ). cond (q n) (Some n) o) (find_same p q ns (λ m e. h m (later_has n ns m e)))
+
+none_all : (p : ℕ → Bool) (ns : List ℕ) → is_none (find (λ n. not (p n)) ns) ≡ list_all p ns
+none_all p [] = refl
+none_all p (n ∷ ns) = go (p n) (none_all p ns)
+  where
+    go : (b : Bool) → is_none (find (λ m. not (p m)) ns) ≡ list_all p ns → is_none (cond (not b) (Some n) (find (λ m. not (p m)) ns)) ≡ (b && list_all p ns)
+    go true e = e
+    go false e = refl
+
+any_has : (p : ℕ → Bool) (ns : List ℕ) (n : ℕ) → has ns n ≡ true → p n ≡ true → list_any p ns ≡ true
+any_has p [] n h e = h
+any_has p (m ∷ ns) n h e = go (m == n) refl h (any_has p ns n)
+  where
+    or_true : (a b : Bool) → a ≡ true → (a || b) ≡ true
+    or_true a b f = rw f refl
+
+    or_later : (a b : Bool) → b ≡ true → (a || b) ≡ true
+    or_later true b f = refl
+    or_later false b f = f
+
+    go : (b : Bool) → (m == n) ≡ b → (b || has ns n) ≡ true → (has ns n ≡ true → p n ≡ true → list_any p ns ≡ true) → (p m || list_any p ns) ≡ true
+    go true g i rec = let s : n ≡ m = grind (arith, nat_tests) in or_true (p m) (list_any p ns) (subst (λ (k : ℕ). p k ≡ true) s e)
+    go false g i rec = or_later (p m) (list_any p ns) (rec i e)
+
+any_none : (p : ℕ → Bool) (ns : List ℕ) → ((n : ℕ) → p n ≡ false) → list_any p ns ≡ false
+any_none p [] h = refl
+any_none p (n ∷ ns) h = rw (h n) (any_none p ns h)
+
+pub filter_has : (p : ℕ → Bool) (ns : List ℕ) (n : ℕ) → has (filter p ns) n ≡ true → has ns n ≡ true
+filter_has p [] n h = h
+filter_has p (m ∷ ns) n h = go (p m) h (filter_has p ns n)
+  where
+    both : (b c d : Bool) → (c ≡ true → d ≡ true) → (b || c) ≡ true → (b || d) ≡ true
+    both true c d f e = refl
+    both false c d f e = f e
+
+    go : (b : Bool) → has (cond b (m ∷ filter p ns) (filter p ns)) n ≡ true → (has (filter p ns) n ≡ true → has ns n ≡ true) → has (m ∷ ns) n ≡ true
+    go true e rec = both (m == n) (has (filter p ns) n) (has ns n) rec e
+    go false e rec = later_has m ns n (rec e)
+
+pub has_filter : (p : ℕ → Bool) (ns : List ℕ) (n : ℕ) → has ns n ≡ true → p n ≡ true → has (filter p ns) n ≡ true
+has_filter p [] n h e = h
+has_filter p (m ∷ ns) n h e = go (m == n) refl (p m) refl h (λ i. has_filter p ns n i e)
+  where
+    true_false : (x y : Bool) → x ≡ true → x ≡ y → y ≡ false → ⊥
+    true_false x y f g i = cc
+
+    go : (b : Bool) → (m == n) ≡ b → (c : Bool) → p m ≡ c → (b || has ns n) ≡ true → (has ns n ≡ true → has (filter p ns) n ≡ true) → has (cond c (m ∷ filter p ns) (filter p ns)) n ≡ true
+    go true f true g i rec = rw f refl
+    go true f false g i rec = let s : n ≡ m = grind (arith, nat_tests) in absurd (true_false (p n) (p m) e (ap p s) g)
+    go false f true g i rec = later_has m (filter p ns) n (rec i)
+    go false f false g i rec = rec i
+
+-- ---- what a tree tells is what the rules say after these entries
+
+pub record Told (r : Rules) (t : List Entry) (tree : TreeValue) : Type 0 where
+  pub held : tree_in tree ≡ r.tree t
+  pub no_edits : plain t ≡ t
+  pub channels : (n : ℕ) → channel_in tree.nodes n ≡ r.channel t n
+  pub roles : (n : ℕ) → has (nodes (r.tree t)) n ≡ true → role_in tree n ≡ r.role t n
+  pub within : (n : ℕ) → has (next (r.tree t) t) n ≡ true → has (nodes (r.tree t)) n ≡ true
+
+pub told : (project : List Entity) (tree : TreeValue) (t : List Entry) → IsTreeOf (entity_at project) (main_of project) tree → plain t ≡ t
+    → ((n : ℕ) → channel_in tree.nodes n ≡ channel_of (entity_at project) (main_of project) n)
+    → ((n : ℕ) → role_in tree n ≡ (if has (nodes (tree_of (entity_at project) (main_of project))) n then role_of (entity_at project) n else Free))
+    → next (tree_of (entity_at project) (main_of project)) t ≡ filter (has (next (tree_of (entity_at project) (main_of project)) t)) (nodes (tree_of (entity_at project) (main_of project)))
+    → Told (rules_of project []) t tree
+told project tree t is none channels roles order =
+    let e = tree_of (entity_at project) (main_of project) in
+    record {
+      held = is.held;
+      no_edits = none;
+      channels = channels;
+      roles = λ n h. roles n ∙ ap (λ (b : Bool). if b then role_of (entity_at project) n else Free) h;
+      within = λ n h. filter_has (has (next e t)) (nodes e) n (subst (λ (ns : List ℕ). has ns n ≡ true) order h);
+    }
+
+-- ---- open steps
+
+-- a channel is busy where it has an open step
+pub busy_is : (r : Rules) (t : List Entry) (slots : List (Option OpenStep)) → AreOpen r t slots → (c : ℕ) → is_busy r t c ≡ is_some (slot_at slots c)
+busy_is r t slots kept c = go (slot_at slots c) refl (kept.each c)
+  where
+    off : slot_at slots c ≡ None → (m : ℕ) (b : Bool) → (r.channel t m == c) ≡ b → (b && is_open m t) ≡ false
+    off e m true g =
+        let s : c ≡ r.channel t m = grind (arith, nat_tests) in
+        kept.opens m ∙ ap (λ (o : Option OpenStep). is_step_of o m) (ap (slot_at slots) (sym s) ∙ e)
+    off e m false g = refl
+
+    go : (slot : Option OpenStep) → slot_at slots c ≡ slot → IfSome slot (λ o. IsOpenStep r t c o) → is_busy r t c ≡ is_some slot
+    go None e h = any_none (λ m. (r.channel t m == c) && is_open m t) (works (r.tree t)) (λ m. off e m (r.channel t m == c) refl)
+    go (Some o) e h = any_has (λ m. (r.channel t m == c) && is_open m t) (works (r.tree t)) o.step h.among on
+      where
+        on : ((r.channel t o.step == c) && is_open o.step t) ≡ true
+        on =
+            let here : (r.channel t o.step == c) ≡ true = let s = h.channel in grind (arith, nat_tests) in
+            let same : (o.step == o.step) ≡ true = grind (arith, nat_tests) in
+            let there : is_open o.step t ≡ true = kept.opens o.step ∙ (ap (λ (q : Option OpenStep). is_step_of q o.step) (ap (slot_at slots) h.channel ∙ e) ∙ same) in
+            rw (here, there) refl
+
+pub not_some : {A : Type 0} (o : Option A) → is_none o ≡ not (is_some o)
+not_some None = refl
+not_some (Some a) = refl
+
+pub none_told : {A : Type 0} (o : Option A) (b : Bool) → is_some o ≡ not b → b ≡ is_none o
+none_told None true e = refl
+none_told None false e = e
+none_told (Some a) true e = e
+none_told (Some a) false e = refl
+
+-- ---- nodes that may go on, and nodes that wait
+
+pub may_is : (r : Rules) (t : List Entry) (tree : TreeValue) (flags : List Bool) (slots : List (Option OpenStep)) → Told r t tree → AreOpen r t slots
+    → ((m : ℕ) → mark_in tree.nodes flags m ≡ has (marks t) m) → (n : ℕ) → has (nodes (r.tree t)) n ≡ true → may_in tree flags slots n ≡ is_enabled r t n
+may_is r t tree flags slots told kept set n h =
+    ap (λ (c : ℕ). may_by (slot_at slots c) tree.nodes flags n (role_in tree n)) (told.channels n)
+    ∙ (ap (may_by (slot_at slots (r.channel t n)) tree.nodes flags n) (told.roles n h) ∙ go (r.role t n))
+  where
+    go : (role : Role) → may_by (slot_at slots (r.channel t n)) tree.nodes flags n role ≡ may_go_on r t n role
+    go Cutting =
+        ap (λ (b : Bool). b || is_none (slot_at slots (r.channel t n))) (sym (kept.opens n))
+        ∙ ap (λ (b : Bool). is_open n t || b) (not_some (slot_at slots (r.channel t n)) ∙ ap not (sym (busy_is r t slots kept (r.channel t n))))
+    go (Waiting m) = set m
+    go Free = refl
+
+pub waits_is : (r : Rules) (t : List Entry) (tree : TreeValue) (flags : List Bool) → Told r t tree
+    → ((m : ℕ) → mark_in tree.nodes flags m ≡ has (marks t) m) → (n : ℕ) → has (nodes (r.tree t)) n ≡ true → waits_in tree flags n ≡ waits r t n
+waits_is r t tree flags told set n h = ap (waits_said tree.nodes flags) (told.roles n h) ∙ go (r.role t n)
+  where
+    go : (role : Role) → waits_said tree.nodes flags role ≡ waits_by t role
+    go Cutting = refl
+    go (Waiting m) = ap not (set m)
+    go Free = refl
+
+-- ---- what the questions find
+
+pub ready_is : (r : Rules) (t : List Entry) (tree : TreeValue) (flags : List Bool) (slots : List (Option OpenStep)) (c : ℕ) → Told r t tree → AreOpen r t slots
+    → ((m : ℕ) → mark_in tree.nodes flags m ≡ has (marks t) m)
+    → find (λ n. (channel_in tree.nodes n == c) && may_in tree flags slots n) (next (tree_in tree) t) ≡ ready r t c
+ready_is r t tree flags slots c told kept set =
+    ap (λ (e : Exec). find (λ n. (channel_in tree.nodes n == c) && may_in tree flags slots n) (next e t)) told.held
+    ∙ (find_same (λ n. (channel_in tree.nodes n == c) && may_in tree flags slots n) (λ n. (r.channel t n == c) && is_enabled r t n) (next (r.tree t) t)
+    (λ n h. ap (λ (k : ℕ). (k == c) && may_in tree flags slots n) (told.channels n)
+    ∙ ap (λ (b : Bool). (r.channel t n == c) && b) (may_is r t tree flags slots told kept set n (told.within n h)))
+    ∙ ap (λ (u : List Entry). find (λ n. (r.channel t n == c) && is_enabled r t n) (next (r.tree t) u)) (sym told.no_edits))
+
+pub all_wait_is : (r : Rules) (t : List Entry) (tree : TreeValue) (flags : List Bool) → Told r t tree
+    → ((m : ℕ) → mark_in tree.nodes flags m ≡ has (marks t) m)
+    → is_none (find (λ n. not (waits_in tree flags n)) (next (tree_in tree) t)) ≡ list_all (waits r t) (next_of r t)
+all_wait_is r t tree flags told set =
+    ap (λ (e : Exec). is_none (find (λ n. not (waits_in tree flags n)) (next e t))) told.held
+    ∙ (ap is_none (find_same (λ n. not (waits_in tree flags n)) (λ n. not (waits r t n)) (next (r.tree t) t)
+    (λ n h. ap not (waits_is r t tree flags told set n (told.within n h))))
+    ∙ (none_all (waits r t) (next (r.tree t) t) ∙ ap (λ (u : List Entry). list_all (waits r t) (next (r.tree t) u)) (sym told.no_edits)))
+
+pub over_is : (r : Rules) (t : List Entry) (e : Exec) → e ≡ r.tree t → plain t ≡ t → is_none (find (λ (n : ℕ). true) (next e t)) ≡ is_empty (next_of r t)
+over_is r t e h none = go (next e t) ∙ (ap (λ (x : Exec). is_empty (next x t)) h ∙ ap (λ (u : List Entry). is_empty (next (r.tree t) u)) (sym none))
+  where
+    go : (ns : List ℕ) → is_none (find (λ (n : ℕ). true) ns) ≡ is_empty ns
+    go [] = refl
+    go (n ∷ ns) = refl

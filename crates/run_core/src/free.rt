@@ -1,0 +1,167 @@
+//! A core with its own project and limit.
+
+ghost use Rattle.std.specs.Prelude.{◌≡◌, ◌<◌, ◌≤◌, ◌++◌, ◌∷◌, [], true, max, length, Some, IsSome, IfSome, IfOk, OnErr, option_map};
+ghost use Rattle.run_log.specs.declared.entry.TheConstants.{MAX_ENTRIES};
+ghost use Rattle.exec_tree.specs.Exec.{has};
+ghost use Rattle.run_law.specs.Fits.{Fits, next_of};
+ghost use Rattle.run_law.specs.Sound.{IsSound};
+ghost use Rattle.run_law.specs.Replay.{made, ready, turn};
+ghost use Rattle.project_law.specs.ProjectRules.{rules_of, store_channels};
+ghost use Rattle.project_law.specs.Legal.{Legal};
+ghost use Rattle.run_core.specs.Kept.{IsPlanned};
+ghost use Rattle.run_frames.specs.Standing.{IsNextOf};
+ghost use Rattle.run_core.specs.Standings.{standing_of};
+ghost use Rattle.run_core.specs.Core.{starts_next};
+ghost use Rattle.run_core.specs.declared.standings.Standing.TheVariants.{Ready};
+
+use crate::standings::{Standing, standing_by};
+use crate::state::{Made, RunState};
+use edit_rules::Project;
+use nc_base::{NoMemory, Number};
+use path_blocks::Plan;
+use project_law::laws::rules_without_edits;
+use run_law::laws::{legal_runs, what_is_made_fits};
+use run_log::Entry;
+use std::alloc::Global;
+use std::marker::Model;
+
+/// What a channel can do: the node that goes on, and whether it is a workingstep that is dispatched by it.
+#[derive(Clone, Copy, Debug, PartialEq, Eq)]
+pub struct Action {
+    pub node: Number,
+    pub starts: bool,
+}
+
+/// A core with its own project and limit, and no edits. Contracts see these, its log and its actors.
+#[derive(Drop)]
+pub struct FreeCore {
+    state: RunState,
+    limit: u32,
+    actors: Vec<u8>,
+}
+
+impl Model for FreeCore {
+    ghost use Rattle.run_core.specs.Core.{Run, IsKept};
+
+    ghost Value = { Run };
+
+    ghost view = { λ a. record { project = a.state.project; limit = a.limit; log = a.state.list; actors = a.actors.items } };
+
+    ghost invariant = { λ a. IsKept a.state a.limit a.actors };
+}
+
+impl FreeCore {
+    /// A core with an empty log.
+    pub fn open(alloc: Global, project: Project, limit: u32) -> Result<FreeCore, NoMemory>
+        requires { (1 ≤ limit) × (limit ≤ MAX_ENTRIES) }
+        ensures { IfOk result (λ core. core ≡ record { project = project; limit = limit; log = []; actors = [] }) }
+    {
+        let actors = Vec::with_capacity(alloc, limit as usize)?;
+        let state = RunState::open(alloc, project, limit)?;
+        Ok(FreeCore {
+            state,
+            limit,
+            actors,
+        })
+    }
+
+    /// Where the run stands.
+    pub fn standing(&self) -> Standing
+        ensures stands { result ≡ standing_of (rules_of self.now.project []) self.now.limit self.now.log }
+        ensures legal { Legal self.now.project [] self.now.log }
+    {
+        self.state.legal();
+        rules_without_edits();
+        standing_by(
+            self.state.is_over(),
+            self.state.all_wait(),
+            self.state.log().len() >= self.limit as usize,
+            false,
+        )
+    }
+
+    /// The first enabled node of a channel, and whether it is a workingstep to be dispatched.
+    pub fn ready(&self, channel: u8) -> Option<Action>
+        ensures node { option_map (λ it. it.node) result ≡ ready (rules_of self.now.project []) self.now.log channel }
+        ensures starts { IfSome result (λ it. it.starts ≡ starts_next (rules_of self.now.project []) self.now.log it.node) }
+    {
+        let Some(node) = self.state.ready(channel) else {
+            return None;
+        };
+        let starts = self.state.starts(node);
+        Some(Action { node, starts })
+    }
+
+    /// How many channels the project has, at least one.
+    pub fn channels(&self) -> u8
+        ensures { result ≡ max 1 (length (store_channels self.now.project)) }
+    {
+        self.state.channels()
+    }
+
+    /// The project's rules are sound, and the log is a legal run that is no longer than its limit.
+    pub fn legal(&self)
+        ensures sound { IsSound (rules_of self.now.project []) }
+        ensures legal { Legal self.now.project [] self.now.log }
+        ensures within { length self.now.log ≤ self.now.limit }
+    {
+        self.state.legal();
+    }
+
+    /// What a node where the run can go on makes next.
+    fn made(&self, alloc: Global, n: Number) -> Result<Made, NoMemory>
+        requires { has (next_of (rules_of self.now.project []) self.now.log) n ≡ true }
+        ensures entry { IfOk result (λ it. it.entry ≡ made (rules_of self.now.project []) self.now.log n) }
+        ensures planned { IfOk result (λ it. IsPlanned self.now.project it.entry it.plan) }
+        ensures in_order { IfOk result (λ it. IsNextOf ((rules_of self.now.project []).tree self.now.log) self.now.log it.entry) }
+    {
+        self.state.made(alloc, n)
+    }
+
+    /// Puts an entry that fits at the log's end, and its actor.
+    fn append(&mut self, who: u8, entry: Entry, plan: Option<Plan>)
+        requires room { length self.old.log < self.old.limit }
+        requires who { who < 16 }
+        requires fits { Fits (rules_of self.old.project []) self.old.log entry }
+        requires planned { IsPlanned self.old.project entry plan }
+        requires in_order { IsNextOf ((rules_of self.old.project []).tree self.old.log) self.old.log entry }
+        ensures { self.new ≡ record self.old { log = self.old.log ++ entry ∷ []; actors = self.old.actors ++ who ∷ [] } }
+    {
+        self.state.follow(entry, plan);
+        self.actors.push_reserved(who);
+    }
+
+    /// Appends the entry of the first enabled node of a channel.
+    pub fn act(&mut self, alloc: Global, who: u8, channel: u8) -> Result<Entry, NoMemory>
+        requires stands { standing_of (rules_of self.old.project []) self.old.limit self.old.log ≡ Ready }
+        requires one { IsSome (ready (rules_of self.old.project []) self.old.log channel) }
+        requires who { who < 16 }
+        ensures turn { IfOk result (λ x. turn (rules_of self.old.project []) self.old.limit self.old.log channel ≡ Some x) }
+        ensures ok { IfOk result (λ x. self.new ≡ record self.old { log = self.old.log ++ x ∷ []; actors = self.old.actors ++ who ∷ [] }) }
+        ensures err { OnErr result (self.new ≡ self.old) }
+    {
+        let n = self.ready(channel).unwrap().node;
+        self.legal();
+        legal_runs();
+        rules_without_edits();
+        what_is_made_fits();
+        let it = self.made(alloc, n)?;
+        let entry = it.entry;
+        self.append(who, entry, it.plan);
+        Ok(entry)
+    }
+
+    /// The log.
+    pub fn log(&self) -> &[Entry]
+        ensures { result.now ≡ self.now.log }
+    {
+        self.state.log()
+    }
+
+    /// The actor of each entry.
+    pub fn actors(&self) -> &[u8]
+        ensures { result.now ≡ self.now.actors }
+    {
+        self.actors.as_slice()
+    }
+}

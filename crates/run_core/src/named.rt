@@ -1,0 +1,143 @@
+//! A core under a name.
+
+ghost use Rattle.std.specs.Prelude.{◌≡◌, ◌<◌, ◌≤◌, ◌++◌, ◌∷◌, [], max, length, IsSome, IfSome, IfOk, OnErr, option_map, Some};
+ghost use Rattle.run_log.specs.declared.entry.TheConstants.{MAX_ENTRIES};
+ghost use Rattle.run_law.specs.Sound.{IsSound};
+ghost use Rattle.run_law.specs.Replay.{ready, turn};
+ghost use Rattle.project_law.specs.ProjectRules.{rules_of, store_channels};
+ghost use Rattle.project_law.specs.Legal.{Legal};
+ghost use Rattle.run_core.specs.Standings.{standing_of};
+ghost use Rattle.run_core.specs.Core.{starts_next};
+ghost use Rattle.run_core.specs.declared.standings.Standing.TheVariants.{Ready};
+
+use crate::free::{Action, FreeCore};
+use crate::standings::Standing;
+use edit_rules::Project;
+use nc_base::NoMemory;
+use run_log::Entry;
+use std::alloc::Global;
+use std::marker::{Brand, Model, PhantomData};
+
+/// Which run it is. The caller picks the name.
+pub trait RunName {
+    ghost use Rattle.std.specs.Prelude.{ℕ, List};
+    ghost use Rattle.entity_types.specs.declared.entity.Entity.{Entity as EntitySeen};
+    ghost use Rattle.entity_types.specs.declared.edit.Edit.{Edit as EditSeen};
+
+    /// The run's project, its script, and the most entries that its log may have.
+    ghost project: { List EntitySeen };
+
+    ghost script: { List EditSeen };
+
+    ghost limit: { ℕ };
+}
+
+impl RunName for Brand {
+    ghost use Rattle.std.specs.Prelude.{[]};
+
+    ghost project = { [] };
+
+    ghost script = { [] };
+
+    ghost limit = { 1 };
+}
+
+/// The core of the run that N names: it makes one legal entry after another. Contracts see its log and its actors.
+#[derive(Drop)]
+pub struct RunCore<N: RunName> {
+    core: FreeCore,
+    of: PhantomData<N>,
+}
+
+impl<N: RunName> Model for RunCore<N> {
+    ghost use Rattle.std.specs.Prelude.{◌≡◌, ℕ, [], List};
+    ghost use Rattle.run_log.specs.declared.entry.Entry.{Entry};
+
+    ghost Value = { List Entry × List ℕ };
+
+    ghost view = { λ a. (a.core.log, a.core.actors) };
+
+    ghost invariant = { λ a. (a.core.project ≡ N.project) × (N.script ≡ []) × (a.core.limit ≡ N.limit) };
+}
+
+impl<N: RunName> RunCore<N> {
+    /// A core of the run that N names, with an empty log. `limit` is 1 to `MAX_ENTRIES`. All memory that its log and its actors need is taken here.
+    ///
+    /// # Errors
+    /// `NoMemory` where there is none.
+    pub fn open(alloc: Global, project: Project, limit: u32) -> Result<RunCore<N>, NoMemory>
+        requires limited { (1 ≤ limit) × (limit ≤ MAX_ENTRIES) }
+        requires project { project ≡ N.project }
+        requires script { N.script ≡ [] }
+        requires limit { limit ≡ N.limit }
+        ensures { IfOk result (λ core. core ≡ ([], [])) }
+    {
+        let core = FreeCore::open(alloc, project, limit)?;
+        Ok(RunCore {
+            core,
+            of: PhantomData,
+        })
+    }
+
+    /// Where the run stands. It takes no memory.
+    pub fn standing(&self) -> Standing
+        ensures { result ≡ standing_of (rules_of N.project N.script) N.limit self.now.0 }
+    {
+        self.core.standing()
+    }
+
+    /// The first enabled node of a channel, in the order of the nodes where the run can go on, and whether it is a workingstep to be dispatched.
+    /// None comes exactly where there is none. It takes no memory.
+    pub fn ready(&self, channel: u8) -> Option<Action>
+        ensures node { option_map (λ it. it.node) result ≡ ready (rules_of N.project N.script) self.now.0 channel }
+        ensures starts { IfSome result (λ it. it.starts ≡ starts_next (rules_of N.project N.script) self.now.0 it.node) }
+    {
+        self.core.ready(channel)
+    }
+
+    /// Appends the entry of the first enabled node of a channel, which a turn of that channel makes, for the actor `who`, below 16.
+    ///
+    /// # Errors
+    /// `NoMemory` where there is none for the plan of a step that is dispatched; the core is then as it was.
+    pub fn act(&mut self, alloc: Global, who: u8, channel: u8) -> Result<Entry, NoMemory>
+        requires stands { standing_of (rules_of N.project N.script) N.limit self.old.0 ≡ Ready }
+        requires one { IsSome (ready (rules_of N.project N.script) self.old.0 channel) }
+        requires who { who < 16 }
+        ensures turn { IfOk result (λ x. turn (rules_of N.project N.script) N.limit self.old.0 channel ≡ Some x) }
+        ensures ok { IfOk result (λ x. self.new ≡ (self.old.0 ++ x ∷ [], self.old.1 ++ who ∷ [])) }
+        ensures err { OnErr result (self.new ≡ self.old) }
+    {
+        self.core.act(alloc, who, channel)
+    }
+
+    /// What holds of every core: the rules of its project are sound, it has no edits, and its log is a legal run that is no longer than its limit.
+    pub fn legal(&self)
+        ensures sound { IsSound (rules_of N.project N.script) }
+        ensures no_edits { N.script ≡ [] }
+        ensures legal { Legal N.project N.script self.now.0 }
+        ensures within { length self.now.0 ≤ N.limit }
+    {
+        self.core.legal();
+    }
+
+    /// How many channels the project has, at least one.
+    pub fn channels(&self) -> u8
+        ensures { result ≡ max 1 (length (store_channels N.project)) }
+    {
+        self.core.channels()
+    }
+
+    /// The log.
+    pub fn log(&self) -> &[Entry]
+        ensures { result.now ≡ self.now.0 }
+    {
+        self.core.log()
+    }
+
+    /// The actor of each entry of the log.
+    pub fn actors(&self) -> &[u8]
+        ensures { result.now ≡ self.now.1 }
+    {
+        self.core.actors()
+    }
+}

@@ -1,0 +1,83 @@
+//! The open step of each channel.
+
+ghost use Rattle.std.specs.Prelude.{◌≡◌, ◌==◌, ◌<◌, ℕ, None, if◌then◌else◌, option_copied, IfOk};
+ghost use Rattle.exec_tree.specs.declared.limits.TheConstants.{MAX_CHANNELS};
+ghost use Rattle.run_core.specs.State.{slot_at, slot_after};
+
+use exec_tree::MAX_CHANNELS;
+use nc_base::{NoMemory, Number};
+use path_blocks::Plan;
+use run_log::Entry;
+use std::alloc::Global;
+use std::marker::Model;
+
+/// A step that was dispatched and hasn't ended, and the plan that it was dispatched with.
+#[derive(Drop)]
+pub struct OpenStep {
+    pub step: Number,
+    pub plan: Plan,
+}
+
+/// The open step of each channel, where it has one.
+#[derive(Drop)]
+pub struct OpenSteps {
+    slots: Vec<Option<OpenStep>>,
+}
+
+impl Model for OpenSteps {
+    ghost use Rattle.std.specs.Prelude.{◌≡◌, length, List, Option};
+    ghost use Rattle.exec_tree.specs.declared.limits.TheConstants.{MAX_CHANNELS};
+    ghost use Rattle.run_core.specs.declared.open_steps.OpenStep.{OpenStep as OpenStepSeen};
+
+    ghost Value = { List (Option OpenStepSeen) };
+
+    ghost view = { λ o. o.slots.items };
+
+    ghost invariant = { λ o. length o.slots.items ≡ MAX_CHANNELS };
+}
+
+/// The open step after an entry of its channel.
+fn slot_after(plan: Option<Plan>, entry: &Entry, slot: Option<OpenStep>) -> Option<OpenStep>
+    ensures { result ≡ slot_after plan entry.now slot }
+{
+    match *entry {
+        Entry::Dispatch { n, .. } => match plan {
+            Some(plan) => Some(OpenStep { step: n, plan }),
+            None => None,
+        },
+        Entry::End { .. } => None,
+        _ => slot,
+    }
+}
+
+impl OpenSteps {
+    /// No channel has an open step.
+    pub fn new(alloc: Global) -> Result<OpenSteps, NoMemory>
+        ensures { IfOk result (λ steps. (channel : ℕ) → slot_at steps channel ≡ None) }
+    {
+        let mut slots = Vec::with_capacity(alloc, MAX_CHANNELS as usize)?;
+        for channel in 0..MAX_CHANNELS {
+            slots.push(None)?;
+        }
+        Ok(OpenSteps { slots })
+    }
+
+    /// The open step of a channel.
+    pub fn at(&self, channel: u8) -> Option<&OpenStep>
+        ensures { option_copied result ≡ slot_at self.now channel }
+    {
+        match self.slots.get(channel as usize) {
+            Some(slot) => slot.as_ref(),
+            None => None,
+        }
+    }
+
+    /// Goes on with an entry of a channel, in which a step is dispatched with this plan.
+    pub fn follow(&mut self, channel: u8, entry: &Entry, plan: Option<Plan>)
+        requires { channel < MAX_CHANNELS }
+        ensures { (c : ℕ) → slot_at self.new c ≡ (if c == channel then slot_after plan entry.now (slot_at self.old c) else slot_at self.old c) }
+    {
+        let slot = self.slots[channel as usize].take();
+        self.slots[channel as usize] = slot_after(plan, entry, slot);
+    }
+}

@@ -1,0 +1,187 @@
+//! A run under a schedule, on one thread.
+
+ghost use Rattle.std.specs.Prelude.{◌≡◌, ◌<◌, ◌≤◌, ◌∷◌, ◌++◌, ℕ, [], List, true, false, is_some, IfOk, OnOk, max, length};
+ghost use Rattle.std.specs.Option.{option_to_list};
+ghost use Rattle.run_log.specs.declared.entry.TheConstants.{MAX_ENTRIES};
+ghost use Rattle.run_law.specs.Endings.{EndsSo};
+ghost use Rattle.run_law.specs.Replay.{has_ended, turn, turns_of, rounds, replay};
+ghost use Rattle.project_law.specs.ProjectRules.{rules_of, channel_numbers, upto};
+ghost use Rattle.project_law.specs.Run.{IsRun};
+ghost use Rattle.run_core.specs.State.{flag_at};
+ghost use Rattle.run_core.specs.Idle.{AreIdle};
+
+use crate::idle::IdleChannels;
+use crate::named::{RunCore, RunName};
+use crate::standings::{Standing, is_over};
+use edit_rules::Project;
+use nc_base::NoMemory;
+use project_law::laws::{project_rules_are_sound, rules_without_edits};
+use run_law::laws::{endings_by_next, replay_ends};
+use run_log::{Ending, Entry, Log};
+use std::alloc::Global;
+use std::marker::Brand;
+
+/// The actor of a run under a schedule: the caller.
+const CALLER: u8 = 8;
+
+/// One turn of a channel. It says whether it made an entry.
+fn turn<N: RunName>(core: &mut RunCore<N>, alloc: Global, channel: u8) -> Result<bool, NoMemory>
+    ensures log { OnOk result (core.new.0 ≡ core.old.0 ++ option_to_list (turn (rules_of N.project N.script) N.limit core.old.0 channel)) }
+    ensures made { IfOk result (λ made. made ≡ is_some (turn (rules_of N.project N.script) N.limit core.old.0 channel)) }
+{
+    rules_without_edits();
+    core.legal();
+    match core.standing() {
+        Standing::Ready => match core.ready(channel) {
+            Some(_) => {
+                core.act(alloc, CALLER, channel)?;
+                Ok(true)
+            }
+            None => Ok(false),
+        },
+        _ => Ok(false),
+    }
+}
+
+/// A turn of a channel, unless its last turn made nothing and no entry was made since.
+fn turn_unless_idle<N: RunName>(
+    core: &mut RunCore<N>,
+    alloc: Global,
+    idle: &mut IdleChannels,
+    channel: u8,
+) -> Result<(), NoMemory>
+    requires { AreIdle (rules_of N.project N.script) N.limit core.old.0 idle.old }
+    ensures log { OnOk result (core.new.0 ≡ core.old.0 ++ option_to_list (turn (rules_of N.project N.script) N.limit core.old.0 channel)) }
+    ensures idle { OnOk result (AreIdle (rules_of N.project N.script) N.limit core.new.0 idle.new) }
+{
+    if idle.has(channel) {
+        return Ok(());
+    }
+    if turn(core, alloc, channel)? {
+        idle.clear();
+    } else {
+        idle.put(channel);
+    }
+    Ok(())
+}
+
+/// Turns of these channels, in order.
+fn turns<N: RunName>(
+    core: &mut RunCore<N>,
+    alloc: Global,
+    idle: &mut IdleChannels,
+    channels: &[u8],
+) -> Result<(), NoMemory>
+    requires { AreIdle (rules_of N.project N.script) N.limit core.old.0 idle.old }
+    ensures log { OnOk result (core.new.0 ≡ turns_of (rules_of N.project N.script) N.limit core.old.0 channels.now) }
+    ensures idle { OnOk result (AreIdle (rules_of N.project N.script) N.limit core.new.0 idle.new) }
+{
+    for channel in channels {
+        turn_unless_idle(core, alloc, idle, *channel)?;
+    }
+    Ok(())
+}
+
+/// Rounds of all channels until the run has ended.
+fn rounds<N: RunName>(
+    core: &mut RunCore<N>,
+    alloc: Global,
+    idle: &mut IdleChannels,
+    channels: &[u8],
+    limit: u32,
+) -> Result<(), NoMemory>
+    requires limit { limit ≡ N.limit }
+    requires idle { AreIdle (rules_of N.project N.script) N.limit core.old.0 idle.old }
+    ensures { OnOk result (core.new.0 ≡ rounds (rules_of N.project N.script) N.limit channels.now N.limit core.old.0) }
+{
+    replay_ends();
+    for round in 0..limit {
+        if is_over(core.standing()) {
+            return Ok(());
+        }
+        turns(core, alloc, idle, channels)?;
+    }
+    Ok(())
+}
+
+/// The numbers of so many channels.
+fn channel_list(alloc: Global, count: u8) -> Result<Vec<u8>, NoMemory>
+    ensures { IfOk result (λ list. list.items ≡ upto count) }
+{
+    let mut list = Vec::new(alloc);
+    for channel in 0..count {
+        list.push(channel)?;
+    }
+    Ok(list)
+}
+
+/// How a run ends that has ended.
+fn ending<N: RunName>(core: &RunCore<N>) -> Ending
+    requires { has_ended (rules_of N.project N.script) N.limit core.now.0 ≡ true }
+    ensures { EndsSo (rules_of N.project N.script) N.limit core.now.0 result }
+{
+    core.legal();
+    endings_by_next();
+    match core.standing() {
+        Standing::Done => Ending::Done,
+        Standing::Blocked => Ending::Blocked,
+        _ => Ending::Limit,
+    }
+}
+
+/// These entries as a log.
+fn log_of(alloc: Global, entries: &[Entry]) -> Result<Log, NoMemory>
+    requires { length entries.now ≤ MAX_ENTRIES }
+    ensures { IfOk result (λ log. log ≡ entries.now) }
+{
+    let mut log = Log::with_capacity(alloc, entries.len() as u32)?;
+    for entry in entries {
+        log.push(*entry)?;
+    }
+    Ok(log)
+}
+
+/// The run that N names, under a schedule.
+fn replay_named<N: RunName>(
+    alloc: Global,
+    project: Project,
+    limit: u32,
+    schedule: &[u8],
+) -> Result<(Log, Ending), NoMemory>
+    requires limited { (1 ≤ limit) × (limit ≤ MAX_ENTRIES) }
+    requires project { project ≡ N.project }
+    requires script { N.script ≡ [] }
+    requires limit { limit ≡ N.limit }
+    ensures replayed { IfOk result (λ ran. ran.0 ≡ replay (rules_of N.project N.script) (channel_numbers N.project) schedule.now N.limit) }
+    ensures run { IfOk result (λ ran. IsRun N.project N.script N.limit ran.0 ran.1) }
+{
+    project_rules_are_sound();
+    replay_ends();
+    let mut core = RunCore::<N>::open(alloc, project, limit)?;
+    let mut idle = IdleChannels::new();
+    let channels = channel_list(alloc, core.channels())?;
+    turns(&mut core, alloc, &mut idle, schedule)?;
+    rounds(&mut core, alloc, &mut idle, channels.as_slice(), limit)?;
+    core.legal();
+    let ending = ending(&core);
+    Ok((log_of(alloc, core.log())?, ending))
+}
+
+/// The run of a project without edits under a schedule of channels: turns as scheduled, then rounds of all channels to its end, or until
+/// the log has `limit` entries, which is 1 to `MAX_ENTRIES`. The log is a legal run, and the ending is its own. A turn of a channel that the
+/// project doesn't have makes nothing.
+///
+/// # Errors
+/// `NoMemory` where there is none for the core, or for the plan of a step that is dispatched.
+pub fn replay(
+    alloc: Global,
+    project: Project,
+    limit: u32,
+    schedule: &[u8],
+) -> Result<(Log, Ending), NoMemory>
+    requires { (1 ≤ limit) × (limit ≤ MAX_ENTRIES) }
+    ensures replayed { IfOk result (λ ran. ran.0 ≡ replay (rules_of project []) (channel_numbers project) schedule.now limit) }
+    ensures run { IfOk result (λ ran. IsRun project [] limit ran.0 ran.1) }
+{
+    replay_named::<Brand>(alloc, project, limit, schedule)
+}

@@ -1,0 +1,333 @@
+//! The state of a run: where it stands, what is set and open, and what the variables are.
+
+ghost use Rattle.std.specs.Prelude.{◌≡◌, ◌<◌, ◌≤◌, ◌++◌, ◌∷◌, [], true, max, length, IfOk, slice_get};
+ghost use Rattle.std.specs.List.{list_all};
+ghost use Rattle.nc_expr.specs.Vars.{value_at};
+ghost use Rattle.exec_tree.specs.Exec.{has};
+ghost use Rattle.exec_tree.specs.declared.limits.TheConstants.{MAX_CHANNELS};
+ghost use Rattle.trace_law.specs.Of.{number_of};
+ghost use Rattle.run_law.specs.Fits.{Fits, plain, next_of};
+ghost use Rattle.run_law.specs.Sound.{IsSound};
+ghost use Rattle.run_frames.specs.Deeds.{deed_offer};
+ghost use Rattle.run_law.specs.Endings.{waits};
+ghost use Rattle.run_law.specs.Replay.{cut, made, ready};
+ghost use Rattle.project_law.specs.ProjectRules.{rules_of, store_channels};
+ghost use Rattle.project_law.specs.Legal.{Legal};
+ghost use Rattle.run_core.specs.State.{slot_at, path_in, entry_by, plan_by, entry_channel};
+ghost use Rattle.run_core.specs.Kept.{IsPlanned};
+ghost use Rattle.run_frames.specs.Standing.{IsNextOf};
+ghost use Rattle.run_log.specs.declared.entry.Entry.TheVariants.{Pick};
+ghost use Rattle.run_core.specs.Standings.{is_empty};
+ghost use Rattle.run_core.specs.Core.{does_start, starts_next};
+
+use crate::definitions::Definitions;
+use crate::marks::{self, Marks};
+use crate::open_steps::OpenSteps;
+use crate::planning::plan_of;
+use crate::questions::{Any, ReadyIn, Waitless};
+use crate::variables::{self, answer_of, opening_vars, value_of};
+use edit_rules::Project;
+use exec_tree::Tree;
+use exec_tree::laws::{places_are_found, trees_are_sound, trees_tell};
+use nc_base::{NoMemory, Number};
+use nc_expr::Vars;
+use path_blocks::Plan;
+use project_law::laws::{project_rules_are_sound, project_rules_move, rules_without_edits};
+use project_store::Store;
+use run_frames::{Deed, Frames};
+use run_law::laws::legal_runs;
+use run_log::Entry;
+use std::alloc::Global;
+use std::marker::Model;
+use trace_law::laws::{
+    blocks_are_counted, next_stands_in_preorder, what_can_go_on_is_open, what_is_offered_follows,
+};
+
+/// The entry that a node makes next, and of a dispatch the plan.
+#[derive(Drop)]
+pub struct Made {
+    pub entry: Entry,
+    pub plan: Option<Plan>,
+}
+
+/// The state of a run without edits. Contracts see the project's entities, the entries so far, and how many of them there is room for.
+#[derive(Drop)]
+pub struct RunState {
+    store: Store,
+    tree: Tree,
+    definitions: Definitions,
+    log: Vec<Entry>,
+    frames: Frames,
+    marks: Marks,
+    vars: Vars,
+    steps: OpenSteps,
+}
+
+impl Model for RunState {
+    ghost use Rattle.std.specs.Prelude.{vec_capacity};
+    ghost use Rattle.run_core.specs.Kept.{State, IsState};
+
+    ghost Value = { State };
+
+    ghost view = { λ a. record { project = a.store; list = a.log.items; room = vec_capacity a.log } };
+
+    ghost invariant = { λ a. IsState a.store a.tree a.definitions a.frames a.log.items a.marks a.vars a.steps };
+}
+
+/// The next block of the open step of a channel, or its end.
+fn next_cut(steps: &OpenSteps, channel: u8, n: Number, k: usize) -> Entry
+    ensures { result ≡ cut n k (slice_get (path_in (slot_at steps.now channel)) k) }
+{
+    let Some(open_step) = steps.at(channel) else {
+        return Entry::End { n };
+    };
+    match open_step.plan.blocks().get(k) {
+        Some(b) => Entry::Block {
+            n,
+            k: k as u32,
+            b: *b,
+        },
+        None => Entry::End { n },
+    }
+}
+
+/// The entry of a node that does this next.
+fn entry_by(
+    tree: &Tree,
+    steps: &OpenSteps,
+    vars: &Vars,
+    n: Number,
+    deed: Deed,
+) -> Result<Entry, NoMemory>
+    ensures { IfOk result (λ entry. entry ≡ entry_by tree.now steps.now (value_at vars.now) n deed) }
+{
+    Ok(match deed {
+        Deed::Starts => Entry::Dispatch { n, v: 0 },
+        Deed::Cuts(k) => next_cut(steps, tree.channel(n), n, k),
+        Deed::Assigns => Entry::Assign {
+            n,
+            x: value_of(tree, vars, n),
+        },
+        Deed::Sets => Entry::Set { n },
+        Deed::Passes => Entry::Pass { n },
+        Deed::Notes => Entry::Note { n },
+        Deed::Picks { count: _, picked } => return pick(n, picked),
+        Deed::Tests => Entry::Test {
+            n,
+            yes: answer_of(tree, vars, n),
+        },
+    })
+}
+
+/// The pick of the element at an index. A tree has no more than fits into 32 bits.
+fn pick(n: Number, index: usize) -> Result<Entry, NoMemory>
+    ensures { IfOk result (λ entry. entry ≡ Pick n index) }
+{
+    if index > u32::MAX as usize {
+        return Err(NoMemory);
+    }
+    Ok(Entry::Pick { n, k: index as u32 })
+}
+
+/// The plan of a step that starts.
+fn plan_by(
+    alloc: Global,
+    definitions: &Definitions,
+    n: Number,
+    deed: Deed,
+) -> Result<Option<Plan>, NoMemory>
+    ensures { IfOk result (λ plan. plan ≡ plan_by definitions.now n deed) }
+{
+    match deed {
+        Deed::Starts => match definitions.of(n) {
+            Some(def) => Ok(Some(plan_of(alloc, def)?)),
+            None => Ok(None),
+        },
+        _ => Ok(None),
+    }
+}
+
+/// Whether a node that does this next is dispatched by it.
+fn is_start(deed: Deed) -> bool
+    ensures { result ≡ does_start (deed_offer deed) }
+{
+    match deed {
+        Deed::Starts => true,
+        _ => false,
+    }
+}
+
+/// The number of an entry's node, none for an edit.
+fn node_of(entry: &Entry) -> Option<Number>
+    ensures { result ≡ number_of entry.now }
+{
+    match *entry {
+        Entry::Dispatch { n, .. } => Some(n),
+        Entry::Block { n, .. } => Some(n),
+        Entry::End { n } => Some(n),
+        Entry::Pick { n, .. } => Some(n),
+        Entry::Test { n, .. } => Some(n),
+        Entry::Assign { n, .. } => Some(n),
+        Entry::Set { n } => Some(n),
+        Entry::Pass { n } => Some(n),
+        Entry::Note { n } => Some(n),
+        Entry::Edit { .. } => None,
+    }
+}
+
+/// The channel of an entry's node.
+fn channel_of(tree: &Tree, entry: &Entry) -> u8
+    ensures { result ≡ entry_channel tree.now entry.now }
+{
+    match node_of(entry) {
+        Some(n) => tree.channel(n),
+        None => 0,
+    }
+}
+
+impl RunState {
+    /// The state of a project's run before its first entry, with room for so many.
+    pub fn open(alloc: Global, project: Project, limit: u32) -> Result<RunState, NoMemory>
+        ensures project { IfOk result (λ state. state.project ≡ project) }
+        ensures list { IfOk result (λ state. state.list ≡ []) }
+        ensures room { IfOk result (λ state. limit ≤ state.room) }
+    {
+        legal_runs();
+        trees_tell();
+        trees_are_sound();
+        let log = Vec::with_capacity(alloc, limit as usize)?;
+        let definitions = Definitions::new(alloc, project.steps())?;
+        let (store, tree) = project.parts();
+        let frames = Frames::open(alloc, &tree)?;
+        let marks = Marks::new(alloc, tree.len())?;
+        let vars = opening_vars(alloc, &store, &tree)?;
+        let steps = OpenSteps::new(alloc)?;
+        Ok(RunState {
+            store,
+            tree,
+            definitions,
+            log,
+            frames,
+            marks,
+            vars,
+            steps,
+        })
+    }
+
+    /// The project's rules are sound, the entries so far are a legal run, and none is of an edit.
+    pub fn legal(&self)
+        ensures sound { IsSound (rules_of self.now.project []) }
+        ensures legal { Legal self.now.project [] self.now.list }
+        ensures no_edits { plain self.now.list ≡ self.now.list }
+    {
+        project_rules_are_sound();
+        let _ = &self.frames;
+    }
+
+    /// The first enabled node of a channel.
+    pub fn ready(&self, channel: u8) -> Option<Number>
+        ensures { result ≡ ready (rules_of self.now.project []) self.now.list channel }
+    {
+        trees_tell();
+        next_stands_in_preorder();
+        trees_are_sound();
+        let question = ReadyIn {
+            channel,
+            tree: &self.tree,
+            marks: &self.marks,
+            steps: &self.steps,
+        };
+        self.frames.first(&self.tree, &question)
+    }
+
+    /// Whether the run can go on nowhere.
+    pub fn is_over(&self) -> bool
+        ensures { result ≡ is_empty (next_of (rules_of self.now.project []) self.now.list) }
+    {
+        self.frames.first(&self.tree, &Any).is_none()
+    }
+
+    /// Whether each node where the run can go on waits for a mark that isn't set.
+    pub fn all_wait(&self) -> bool
+        ensures { result ≡ list_all (waits (rules_of self.now.project []) self.now.list) (next_of (rules_of self.now.project []) self.now.list) }
+    {
+        trees_tell();
+        next_stands_in_preorder();
+        trees_are_sound();
+        let question = Waitless {
+            tree: &self.tree,
+            marks: &self.marks,
+        };
+        self.frames.first(&self.tree, &question).is_none()
+    }
+
+    /// Whether a node where the run can go on is dispatched next.
+    pub fn starts(&self, n: Number) -> bool
+        requires { has (next_of (rules_of self.now.project []) self.now.list) n ≡ true }
+        ensures { result ≡ starts_next (rules_of self.now.project []) self.now.list n }
+    {
+        is_start(self.frames.deed(&self.tree, n))
+    }
+
+    /// How many channels the tree has, at least one.
+    pub fn channels(&self) -> u8
+        ensures { result ≡ max 1 (length (store_channels self.now.project)) }
+    {
+        self.tree.channels()
+    }
+
+    /// The entries so far.
+    pub fn log(&self) -> &[Entry]
+        ensures { result.now ≡ self.now.list }
+    {
+        self.log.as_slice()
+    }
+
+    /// What a node where the run can go on makes next. It may want memory for the plan of a step that starts.
+    pub fn made(&self, alloc: Global, n: Number) -> Result<Made, NoMemory>
+        requires { has (next_of (rules_of self.now.project []) self.now.list) n ≡ true }
+        ensures entry { IfOk result (λ it. it.entry ≡ made (rules_of self.now.project []) self.now.list n) }
+        ensures planned { IfOk result (λ it. IsPlanned self.now.project it.entry it.plan) }
+        ensures in_order { IfOk result (λ it. IsNextOf ((rules_of self.now.project []).tree self.now.list) self.now.list it.entry) }
+    {
+        trees_tell();
+        trees_are_sound();
+        next_stands_in_preorder();
+        blocks_are_counted();
+        what_can_go_on_is_open();
+        rules_without_edits();
+        project_rules_are_sound();
+        legal_runs();
+        let deed = self.frames.deed(&self.tree, n);
+        let plan = plan_by(alloc, &self.definitions, n, deed)?;
+        let entry = entry_by(&self.tree, &self.steps, &self.vars, n, deed)?;
+        Ok(Made { entry, plan })
+    }
+
+    /// Goes on with an entry that fits.
+    pub fn follow(&mut self, entry: Entry, plan: Option<Plan>)
+        requires room { length self.old.list < self.old.room }
+        requires fits { Fits (rules_of self.old.project []) self.old.list entry }
+        requires planned { IsPlanned self.old.project entry plan }
+        requires in_order { IsNextOf ((rules_of self.old.project []).tree self.old.list) self.old.list entry }
+        ensures { self.new ≡ record self.old { list = self.old.list ++ entry ∷ [] } }
+    {
+        trees_tell();
+        trees_are_sound();
+        next_stands_in_preorder();
+        rules_without_edits();
+        project_rules_are_sound();
+        project_rules_move();
+        legal_runs();
+        blocks_are_counted();
+        what_is_offered_follows();
+        places_are_found();
+        self.tree.channel_table();
+        let channel = channel_of(&self.tree, &entry);
+        self.steps.follow(channel, &entry, plan);
+        marks::follow(&mut self.marks, &self.tree, &entry);
+        variables::follow(&mut self.vars, &self.tree, &entry);
+        self.frames.advance(&self.tree, &entry);
+        self.log.push_reserved(entry);
+    }
+}

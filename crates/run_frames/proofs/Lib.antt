@@ -1,0 +1,14 @@
+pub mod RenamingLemmas
+pub mod RenamedPartLemmas
+pub mod KeepLemmas
+pub mod PlacedLemmas
+pub mod CountLemmas
+pub mod SearchLemmas
+pub mod WriteLemmas
+pub mod OpenLemmas
+pub mod MoveLemmas
+pub mod AdvanceLemmas
+pub mod KindLemmas
+pub mod NumberLemmas
+pub mod StandLemmas
+pub mod DeedLemmas

@@ -1,0 +1,10 @@
+pub mod Deeds
+pub mod Placed
+pub mod Frames
+pub mod Search
+pub mod Renaming
+pub mod Opened
+pub mod Fresh
+pub mod Moved
+pub mod Entries
+pub mod Standing

@@ -1,0 +1,22 @@
+//! What a node does next.
+
+/// What a node does next where a run goes on.
+#[derive(Clone, Copy, Debug, PartialEq, Eq)]
+pub enum Deed {
+    /// A workingstep is dispatched.
+    Starts,
+    /// An open workingstep with so many blocks cuts the next, or ends.
+    Cuts(usize),
+    /// A value is assigned.
+    Assigns,
+    /// A mark is set.
+    Sets,
+    /// A wait is passed, once its mark is set.
+    Passes,
+    /// A message is shown.
+    Notes,
+    /// One of `count` elements is picked, of which the first `picked` were.
+    Picks { count: usize, picked: usize },
+    /// A condition is tested.
+    Tests,
+}
