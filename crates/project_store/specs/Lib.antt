@@ -6,3 +6,4 @@ pub mod Inserts
 pub mod Put
 pub mod Resolved
 pub mod Least
+pub mod Putting

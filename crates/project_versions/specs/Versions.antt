@@ -6,19 +6,10 @@ use Rattle.path_blocks.specs.declared.def.Def.{Def}
 use Rattle.entity_types.specs.declared.entity.Entity.{Entity}
 use Rattle.entity_types.specs.declared.edit.Edit.{Edit}
 use Rattle.project_store.specs.Entities.{entity_at}
+pub use Rattle.project_store.specs.Put.{put_in, put_items}
 use Rattle.step_def.specs.declared.fault.DefFault.{DefFault}
 use Rattle.step_def.specs.DefOf.{def_of}
 use Rattle.project_versions.specs.Reach.{is_reached}
-
--- a store with an item put: it takes the place of the entity of its number, or comes at the end
-abbrev pub put_in : List Entity → Entity → List Entity
-put_in [] item = item ∷ []
-put_in (entity ∷ store) item = if entity.number == item.number then item ∷ store else entity ∷ put_in store item
-
--- a store with items put in their order
-abbrev pub put_items : List Entity → List Entity → List Entity
-put_items store [] = store
-put_items store (item ∷ items) = put_items (put_in store item) items
 
 -- an entry of a log as edits see it: the verdict on an edit of the script, or any other
 pub data Event : Type 0 where
