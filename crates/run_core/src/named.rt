@@ -13,6 +13,7 @@ ghost use Rattle.run_core.specs.declared.standings.Standing.TheVariants.{Ready};
 use crate::free::{Action, FreeCore};
 use crate::standings::Standing;
 use edit_rules::Project;
+use entity_types::Script;
 use nc_base::NoMemory;
 use run_log::Entry;
 use std::alloc::Global;
@@ -57,7 +58,7 @@ impl<N: RunName> Model for RunCore<N> {
 
     ghost view = { λ a. (a.core.log, a.core.actors) };
 
-    ghost invariant = { λ a. (a.core.project ≡ N.project) × (N.script ≡ []) × (a.core.limit ≡ N.limit) };
+    ghost invariant = { λ a. (a.core.project ≡ N.project) × (a.core.script ≡ N.script) × (a.core.limit ≡ N.limit) };
 }
 
 impl<N: RunName> RunCore<N> {
@@ -65,14 +66,14 @@ impl<N: RunName> RunCore<N> {
     ///
     /// # Errors
     /// `NoMemory` where there is none.
-    pub fn open(alloc: Global, project: Project, limit: u32) -> Result<RunCore<N>, NoMemory>
+    pub fn open(alloc: Global, project: Project, script: Script, limit: u32) -> Result<RunCore<N>, NoMemory>
         requires limited { (1 ≤ limit) × (limit ≤ MAX_ENTRIES) }
         requires project { project ≡ N.project }
-        requires script { N.script ≡ [] }
+        requires script { script ≡ N.script }
         requires limit { limit ≡ N.limit }
         ensures { IfOk result (λ core. core ≡ ([], [])) }
     {
-        let core = FreeCore::open(alloc, project, limit)?;
+        let core = FreeCore::open(alloc, project, script, limit)?;
         Ok(RunCore {
             core,
             of: PhantomData,
@@ -110,10 +111,9 @@ impl<N: RunName> RunCore<N> {
         self.core.act(alloc, who, channel)
     }
 
-    /// What holds of every core: the rules of its project are sound, it has no edits, and its log is a legal run that is no longer than its limit.
+    /// What holds of every core: the rules of its project and script are sound, and its log is a legal run that is no longer than its limit.
     pub fn legal(&self)
         ensures sound { IsSound (rules_of N.project N.script) }
-        ensures no_edits { N.script ≡ [] }
         ensures legal { Legal N.project N.script self.now.0 }
         ensures within { length self.now.0 ≤ N.limit }
     {

@@ -10,14 +10,14 @@ pub made-requires : goal.made-requires
 made-requires c =
     let p = c.args.self.now.project in
     let t = c.args.self.now.log in
-    let e : ready (rules_of p []) t c.args.channel ≡ Some c.unwrap-n.result.node = sym c.ready.ensures.node ∙ ap (option_map (λ it. it.node)) c.unwrap-n.ensures in
-    ready_has (rules_of p []) t c.args.channel c.unwrap-n.result.node e
+    let e : ready (rules_of p s) t c.args.channel ≡ Some c.unwrap-n.result.node = sym c.ready.ensures.node ∙ ap (option_map (λ it. it.node)) c.unwrap-n.ensures in
+    ready_has (rules_of p s) t c.args.channel c.unwrap-n.result.node e
 
 pub append-requires-clause-fits : goal.append-requires-clause-fits
 append-requires-clause-fits c =
     let p = c.args.self.now.project in
     let t = c.args.self.now.log in
-    let e : ready (rules_of p []) t c.args.channel ≡ Some c.unwrap-n.result.node = sym c.ready.ensures.node ∙ ap (option_map (λ it. it.node)) c.unwrap-n.ensures in
-    subst (Fits (rules_of p []) t) (sym c.in_ok-it.ensures.entry)
-    (c.what_is_made_fits.ensures (rules_of p []) t c.unwrap-n.result.node c.legal.ensures.sound c.legal.ensures.legal (c.rules_without_edits.ensures.due p t)
-    (ready_has (rules_of p []) t c.args.channel c.unwrap-n.result.node e) (ready_enabled (rules_of p []) t c.args.channel c.unwrap-n.result.node e))
+    let e : ready (rules_of p s) t c.args.channel ≡ Some c.unwrap-n.result.node = sym c.ready.ensures.node ∙ ap (option_map (λ it. it.node)) c.unwrap-n.ensures in
+    subst (Fits (rules_of p s) t) (sym c.in_ok-it.ensures.entry)
+    (c.what_is_made_fits.ensures (rules_of p s) t c.unwrap-n.result.node c.legal.ensures.sound c.legal.ensures.legal (c.rules_without_edits.ensures.due p t)
+    (ready_has (rules_of p s) t c.args.channel c.unwrap-n.result.node e) (ready_enabled (rules_of p s) t c.args.channel c.unwrap-n.result.node e))
