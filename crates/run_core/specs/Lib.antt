@@ -5,5 +5,4 @@ pub mod Standings
 pub mod Kinds
 pub mod Core
 pub mod Idle
-pub mod VersionsSeen
 pub mod Edits

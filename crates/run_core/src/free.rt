@@ -1,30 +1,33 @@
 //! A core with its own project, script and limit.
 
-ghost use Rattle.std.specs.Prelude.{◌≡◌, ◌<◌, ◌≤◌, ◌++◌, ◌∷◌, [], true, max, length, Some, IsSome, IfSome, IfOk, OnErr, option_map};
+ghost use Rattle.std.specs.Prelude.{◌≡◌, ◌<◌, ◌≤◌, ◌+◌, ◌++◌, ℕ, ◌∷◌, [], true, max, length, Some, IsSome, IfSome, IfOk, OnErr, option_map};
 ghost use Rattle.run_log.specs.declared.entry.TheConstants.{MAX_ENTRIES};
 ghost use Rattle.exec_tree.specs.Exec.{has};
-ghost use Rattle.run_law.specs.Fits.{Fits, is_plain, plain, next_of};
+ghost use Rattle.run_law.specs.Fits.{Fits, is_plain, plain, next_of, judged};
 ghost use Rattle.run_law.specs.Sound.{IsSound};
 ghost use Rattle.run_law.specs.Replay.{made, ready, turn};
 ghost use Rattle.project_law.specs.Script.{store_after};
-ghost use Rattle.project_law.specs.ProjectRules.{rules_of, store_channels};
+ghost use Rattle.project_law.specs.ProjectRules.{rules_of, store_channels, store_steps, version_after};
 ghost use Rattle.project_law.specs.Legal.{Legal};
 ghost use Rattle.run_core.specs.Kept.{IsPlanned};
 ghost use Rattle.run_frames.specs.Standing.{IsNextOf};
 ghost use Rattle.run_core.specs.Standings.{standing_of};
 ghost use Rattle.run_core.specs.Core.{starts_next};
-ghost use Rattle.run_core.specs.declared.standings.Standing.TheVariants.{Ready};
+ghost use Rattle.run_core.specs.declared.standings.Standing.TheVariants.{Ready, EditDue};
+ghost use Rattle.run_log.specs.declared.entry.Entry.TheVariants.{Edit};
+ghost use Rattle.run_core.specs.Edits.{reached_by};
 
 use crate::standings::{Standing, standing_by};
 use crate::state::{Made, RunState};
 use edit_rules::Project;
 use entity_types::Script;
-use nc_base::{NoMemory, Number};
+use nc_base::{NoMemory, Number, Steps, Verdict};
 use path_blocks::Plan;
 use run_law::laws::{legal_runs, what_is_made_fits};
 use run_log::Entry;
 use std::alloc::Global;
 use std::marker::Model;
+use std::sync::ledger::Ledger;
 
 /// What a channel can do: the node that goes on, and whether it is a workingstep that is dispatched by it.
 #[derive(Clone, Copy, Debug, PartialEq, Eq)]
@@ -151,6 +154,34 @@ impl FreeCore {
         let entry = it.entry;
         self.append(who, entry, it.plan);
         Ok(entry)
+    }
+
+    /// Appends the verdict on the next edit, which is due, and puts the edit where it is accepted.
+    pub fn judge_next<L: Ledger>(
+        &mut self,
+        alloc: Global,
+        who: u8,
+        steps: &mut Steps<L>,
+    ) -> Result<Verdict, NoMemory>
+        requires stands { standing_of (rules_of self.old.project self.old.script) self.old.limit self.old.log ≡ EditDue }
+        requires who { who < 16 }
+        ensures turn { IfOk result (λ verdict. (channel : ℕ) → turn (rules_of self.old.project self.old.script) self.old.limit self.old.log channel ≡ Some (Edit (judged self.old.log) verdict)) }
+        ensures ok { IfOk result (λ verdict. self.new ≡ record self.old { log = self.old.log ++ Edit (judged self.old.log) verdict ∷ []; actors = self.old.actors ++ who ∷ [] }) }
+        ensures err { OnErr result (self.new ≡ self.old) }
+        ensures ticks { steps.new ≤ steps.old + reached_by self.old.project self.old.script self.old.log (judged self.old.log) }
+    {
+        let verdict = self.state.judge(alloc, steps)?;
+        self.state.settle(alloc, verdict)?;
+        self.actors.push_reserved(who);
+        Ok(verdict)
+    }
+
+    /// The version of a workingstep of the tree: how many edits that were accepted reached it.
+    pub fn version(&self, step: Number) -> u32
+        requires { has (store_steps self.now.project) step ≡ true }
+        ensures { result ≡ version_after self.now.script self.now.project self.now.log step }
+    {
+        self.state.version(step)
     }
 
     /// The log.

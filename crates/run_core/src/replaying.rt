@@ -1,12 +1,14 @@
 //! A run under a schedule, on one thread.
 
-ghost use Rattle.std.specs.Prelude.{◌≡◌, ◌<◌, ◌≤◌, ◌∷◌, ◌++◌, ℕ, [], List, true, false, is_some, IfOk, OnOk, max, length};
+ghost use Rattle.std.specs.Prelude.{◌≡◌, ◌<◌, ◌≤◌, ◌∷◌, ◌++◌, ℕ, [], List, true, false, is_some, IfOk, OnOk, IsSomeAnd, max, length};
 ghost use Rattle.std.specs.Option.{option_to_list};
 ghost use Rattle.run_log.specs.declared.entry.TheConstants.{MAX_ENTRIES};
 ghost use Rattle.run_law.specs.Endings.{EndsSo};
 ghost use Rattle.run_law.specs.Replay.{has_ended, turn, turns_of, rounds, replay};
 ghost use Rattle.project_law.specs.ProjectRules.{rules_of, channel_numbers, upto};
 ghost use Rattle.project_law.specs.Run.{IsRun};
+ghost use Rattle.run_core.specs.Standings.{standing_of};
+ghost use Rattle.run_core.specs.declared.standings.Standing.TheVariants.{EditDue};
 ghost use Rattle.run_core.specs.State.{flag_at};
 ghost use Rattle.run_core.specs.Idle.{AreIdle};
 
@@ -15,15 +17,34 @@ use crate::named::{RunCore, RunName};
 use crate::standings::{Standing, is_over};
 use edit_rules::Project;
 use entity_types::Script;
-use nc_base::NoMemory;
+use nc_base::{NoMemory, Steps};
 use project_law::laws::{project_rules_are_sound};
 use run_law::laws::{endings_by_next, replay_ends};
 use run_log::{Ending, Entry, Log};
 use std::alloc::Global;
 use std::marker::Brand;
+use std::sync::ledger::{Blank, Ledger};
 
 /// The actor of a run under a schedule: the caller.
 const CALLER: u8 = 8;
+
+/// The verdict on the next edit, by a counter of its own.
+fn judge_counted<N: RunName, L: Ledger>(
+    core: &mut RunCore<N>,
+    alloc: Global,
+    blank: Blank,
+) -> Result<(), NoMemory>
+    requires name { blank.name ≡ L.name }
+    requires parts { blank.parts ≡ L.parts }
+    requires one { blank.parts ≡ 1 }
+    requires stands { standing_of (rules_of N.project N.script) N.limit core.old.0 ≡ EditDue }
+    ensures { OnOk result ((channel : ℕ) → IsSomeAnd (turn (rules_of N.project N.script) N.limit core.old.0 channel) (λ x. core.new.0 ≡ core.old.0 ++ x ∷ [])) }
+{
+    let (book, share) = blank.open::<L>();
+    let mut counter = Steps::new(book, share);
+    core.judge_next(alloc, CALLER, &mut counter)?;
+    Ok(())
+}
 
 /// One turn of a channel. It says whether it made an entry.
 fn turn<N: RunName>(core: &mut RunCore<N>, alloc: Global, channel: u8) -> Result<bool, NoMemory>
@@ -39,7 +60,11 @@ fn turn<N: RunName>(core: &mut RunCore<N>, alloc: Global, channel: u8) -> Result
             }
             None => Ok(false),
         },
-        _ => Ok(false),
+        Standing::EditDue => {
+            judge_counted::<N, Brand>(core, alloc, Blank::new(1))?;
+            Ok(true)
+        }
+        Standing::Done | Standing::Blocked | Standing::Limit => Ok(false),
     }
 }
 

@@ -1,6 +1,6 @@
 //! The state of a run: where it stands, what is set and open, and what the variables are.
 
-ghost use Rattle.std.specs.Prelude.{◌≡◌, ◌<◌, ◌≤◌, ◌++◌, ◌∷◌, [], true, max, length, IfOk, slice_get, is_none};
+ghost use Rattle.std.specs.Prelude.{◌≡◌, ◌<◌, ◌≤◌, ◌++◌, ◌∷◌, [], true, max, ◌+◌, length, IfOk, OnOk, OnErr, slice_get, is_none};
 ghost use Rattle.std.specs.List.{list_all};
 ghost use Rattle.nc_expr.specs.Vars.{value_at};
 ghost use Rattle.exec_tree.specs.Exec.{has};
@@ -15,13 +15,13 @@ ghost use Rattle.project_store.specs.Entities.{entity_at};
 ghost use Rattle.step_def.specs.Condition.{is_workingstep};
 ghost use Rattle.run_frames.specs.declared.deed.Deed.TheVariants.{Starts};
 ghost use Rattle.project_law.specs.Script.{store_after};
-ghost use Rattle.project_law.specs.ProjectRules.{rules_of, store_channels};
+ghost use Rattle.project_law.specs.ProjectRules.{rules_of, store_channels, store_steps, version_after};
 ghost use Rattle.project_law.specs.Legal.{Legal};
 ghost use Rattle.run_core.specs.State.{slot_at, path_in, entry_by, plan_by, entry_channel};
 ghost use Rattle.run_core.specs.Kept.{IsPlanned};
-ghost use Rattle.run_core.specs.Edits.{HasVersion, version_now};
+ghost use Rattle.run_core.specs.Edits.{HasVersion, version_now, reached_by};
 ghost use Rattle.run_frames.specs.Standing.{IsNextOf};
-ghost use Rattle.run_log.specs.declared.entry.Entry.TheVariants.{Pick};
+ghost use Rattle.run_log.specs.declared.entry.Entry.TheVariants.{Pick, Edit};
 ghost use Rattle.run_core.specs.Standings.{is_empty};
 ghost use Rattle.run_core.specs.Core.{does_start, starts_next};
 
@@ -36,7 +36,7 @@ use edit_rules::Project;
 use entity_types::Script;
 use exec_tree::Tree;
 use exec_tree::laws::{places_are_found, trees_are_sound, trees_tell};
-use nc_base::{NoMemory, Number};
+use nc_base::{NoMemory, Number, Steps, Verdict};
 use nc_expr::Vars;
 use path_blocks::Plan;
 use project_law::laws::{project_rules_are_sound, project_rules_move, stuck_project_waits};
@@ -46,6 +46,7 @@ use run_law::laws::{legal_runs, logs_move};
 use run_log::Entry;
 use std::alloc::Global;
 use std::marker::Model;
+use std::sync::ledger::Ledger;
 use trace_law::laws::{
     blocks_are_counted, next_stands_in_preorder, what_can_go_on_is_open, what_is_offered_follows,
 };
@@ -313,6 +314,14 @@ impl RunState {
         self.tree.channels()
     }
 
+    /// The version of a workingstep of the tree.
+    pub fn version(&self, step: Number) -> u32
+        requires { has (store_steps self.now.project) step ≡ true }
+        ensures { result ≡ version_after self.now.script self.now.project self.now.list step }
+    {
+        self.edits.version(step)
+    }
+
     /// The entries so far.
     pub fn log(&self) -> &[Entry]
         ensures { result.now ≡ self.now.list }
@@ -369,5 +378,39 @@ impl RunState {
         variables::follow(&mut self.vars, &self.tree, &entry);
         self.frames.advance(&self.tree, &entry);
         self.log.push_reserved(entry);
+    }
+
+    /// The verdict on the next edit, which is due. It changes nothing.
+    pub fn judge<L: Ledger>(
+        &self,
+        alloc: Global,
+        steps: &mut Steps<L>,
+    ) -> Result<Verdict, NoMemory>
+        requires due { is_due (rules_of self.now.project self.now.script) self.now.list ≡ true }
+        ensures verdict { IfOk result (λ verdict. verdict ≡ (rules_of self.now.project self.now.script).verdict self.now.list (judged self.now.list)) }
+        ensures ticks { steps.new ≤ steps.old + reached_by self.now.project self.now.script self.now.list (judged self.now.list) }
+    {
+        trees_tell();
+        self.edits.judge(alloc, &self.tree, steps)
+    }
+
+    /// Goes on with the verdict on the next edit, which is due, and puts the edit where it is accepted.
+    ///
+    /// # Errors
+    /// `NoMemory` where there is none for the edit; all is then as it was.
+    pub fn settle(&mut self, alloc: Global, verdict: Verdict) -> Result<(), NoMemory>
+        requires room { length self.old.list < self.old.room }
+        requires due { is_due (rules_of self.old.project self.old.script) self.old.list ≡ true }
+        requires verdict { verdict ≡ (rules_of self.old.project self.old.script).verdict self.old.list (judged self.old.list) }
+        ensures ok { OnOk result (self.new ≡ record self.old { list = self.old.list ++ Edit (judged self.old.list) verdict ∷ [] }) }
+        ensures err { OnErr result (self.new ≡ self.old) }
+    {
+        project_rules_move();
+        legal_runs();
+        logs_move();
+        let i = self.edits.judged;
+        self.edits.settle(alloc, verdict)?;
+        self.log.push_reserved(Entry::Edit { i, verdict });
+        Ok(())
     }
 }
