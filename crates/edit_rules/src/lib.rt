@@ -14,9 +14,15 @@
 
 mod error;
 mod indices;
+mod item_faults;
+
 pub mod laws;
 mod project;
+mod step_faults;
 mod steps;
+mod verdict;
 
 pub use error::ProjErr;
+
 pub use project::Project;
+pub use verdict::judge;
