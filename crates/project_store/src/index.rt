@@ -1,6 +1,6 @@
 //! Entities in file order, found by number.
 
-ghost use Rattle.std.specs.Prelude.{◌≡◌, ◌↔◌, ◌<◌, ℕ, [], ◌∷◌, nat_eq, length, slice_get, None, Some, IfOk, OnOk, IfErr, OnErr, option_copied};
+ghost use Rattle.std.specs.Prelude.{◌≡◌, ◌↔◌, ◌<◌, ◌^◌, ℕ, [], ◌∷◌, nat_eq, length, slice_get, None, Some, IfOk, OnOk, IfErr, OnErr, option_copied};
 ghost use Rattle.std.specs.List.{IsDistinct};
 ghost use Rattle.project_store.specs.Build.{count_fault, projects_of};
 ghost use Rattle.project_store.specs.Entities.{numbers_of, entity_at};
@@ -53,6 +53,7 @@ impl Index {
     /// How many entities there are.
     pub fn len(&self) -> usize
         ensures len { result ≡ length self.now }
+        ensures bounded { result < 2 ^ 63 }
         ensures distinct { IsDistinct nat_eq (numbers_of self.now) }
     {
         self.entities.len()
@@ -123,6 +124,7 @@ impl Index {
         ensures put { OnOk result (self.new ≡ put_items self.old items) }
         ensures kept { OnErr result (self.new ≡ self.old) }
         ensures given_back { IfErr result (λ list. list ≡ items) }
+        ensures distinct { IsDistinct nat_eq (numbers_of self.old) }
     {
         let alloc = *self.entities.allocator();
         let Ok(added) = added_with(alloc, self, self.added.as_slice(), items.as_slice()) else {
