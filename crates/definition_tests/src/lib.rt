@@ -9,3 +9,5 @@ mod entities;
 mod reading;
 #[cfg(test)]
 mod store;
+#[cfg(test)]
+mod verdicts;

@@ -27,7 +27,8 @@ fn built(rt: &impl Abort, alloc: Global, text: &str) -> Result<Result<Store, Sto
     Ok(Store::build(alloc, all))
 }
 
-fn store(rt: &impl Abort, alloc: Global, text: &str) -> Result<Store, Fail> {
+/// The store of a text of instances.
+pub fn store(rt: &impl Abort, alloc: Global, text: &str) -> Result<Store, Fail> {
     Ok(built(rt, alloc, text)??)
 }
 

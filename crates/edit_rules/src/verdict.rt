@@ -18,17 +18,6 @@ use project_versions::{StepSet, Versions};
 use std::alloc::Global;
 use std::sync::ledger::Ledger;
 
-fn put_over<'a>(
-    alloc: Global,
-    store: &'a Store,
-    items: &'a EntityList,
-) -> Result<Overlay<'a>, NoMemory>
-    ensures store { IfOk result (λ overlay. overlay.store.now ≡ store.now) }
-    ensures items { IfOk result (λ overlay. overlay.items.now ≡ items.now) }
-{
-    Ok(Overlay::new(store, items))
-}
-
 /// The first of the rules on classes and references that refuses an item: J1, J2 or J3. The overlay is of the store and the items.
 fn item_refusal(store: &Store, put: &Overlay, items: &EntityList) -> Option<Verdict>
     requires store { put.now.store.now ≡ store.now }
@@ -61,7 +50,7 @@ fn refusal<L: Ledger>(
     ensures idle { IsSome (early_refusal versions.now.store (steps_in tree.now.nodes) sent.now.members edit.now.items) → steps.new ≡ steps.old }
 {
     let store = versions.store();
-    let put = put_over(alloc, store, &edit.items)?;
+    let put = Overlay::new(alloc, store, &edit.items)?;
     if let Some(verdict) = item_refusal(store, &put, &edit.items) {
         return Ok(Some(verdict));
     }
