@@ -9,6 +9,7 @@ ghost use Rattle.project_store.specs.Put.{put_items};
 ghost use Rattle.project_store.specs.Putting.{CanPut};
 ghost use Rattle.step_def.specs.Condition.{is_workingstep};
 ghost use Rattle.exec_tree.specs.Exec.{has};
+ghost use Rattle.exec_tree.specs.Built.{steps_of};
 ghost use Rattle.exec_tree.specs.Built.{TreeValue, IsTreeOf, steps_in};
 ghost use Rattle.project_versions.specs.Reach.{after, is_reached};
 ghost use Rattle.edit_rules.specs.Judge.{j1, j2, j3, j4, j5, reached, touched, step_fault, is_replaceable, judge};
@@ -52,3 +53,8 @@ pub fn steps_of_trees_are_workingsteps()
 {
     trees_tell();
 }
+
+/// The workingsteps of a tree are workingsteps by their class.
+pub fn tree_steps_are_workingsteps()
+    ensures { (entities : ℕ → Option Entity) (main : ℕ) → list_all (is_workingstep entities) (steps_of entities main) ≡ true }
+{}

@@ -59,12 +59,12 @@ contains_has ns n h = has_among ns n ∙ list_any-from_Contains nat_eq_equiv n n
 -- a test that all of a list pass each of it passes
 pub each_passes : (p : ℕ → Bool) (ns : List ℕ) (n : ℕ) → list_all p ns ≡ true → has ns n ≡ true → p n ≡ true
 each_passes p [] n h i = absurd (no_way i)
-each_passes p (m ∷ ns) n h i = go (p m) refl h (m == n) refl i
+each_passes p (m ∷ ns) n h i = go (each_passes p ns n) (p m) refl h (m == n) refl i
   where
-    go : (a : Bool) → p m ≡ a → (a && list_all p ns) ≡ true → (b : Bool) → (m == n) ≡ b → (b || has ns n) ≡ true → p n ≡ true
-    go false e f b g j = absurd (no_way f)
-    go true e f true g j = let s : m ≡ n = grind (arith, nat_tests) in subst (λ (k : ℕ). p k ≡ true) s e
-    go true e f false g j = each_passes p ns n f j
+    go : (list_all p ns ≡ true → has ns n ≡ true → p n ≡ true) → (a : Bool) → p m ≡ a → (a && list_all p ns) ≡ true → (b : Bool) → (m == n) ≡ b → (b || has ns n) ≡ true → p n ≡ true
+    go others false e f b g j = absurd (no_way f)
+    go others true e f true g j = let s : m ≡ n = grind (arith, nat_tests) in subst (λ (k : ℕ). p k ≡ true) s e
+    go others true e f false g j = others f j
 
 pub all_pass : (p : ℕ → Bool) (ns : List ℕ) → ((n : ℕ) → has ns n ≡ true → p n ≡ true) → list_all p ns ≡ true
 all_pass p [] h = refl
@@ -126,11 +126,11 @@ waiting_off r t n h = go (r.role t n) h
 
 all_off : (r : Rules) (t : List Entry) (ns : List ℕ) → list_all (waits r t) ns ≡ true → list_any (is_enabled r t) ns ≡ false
 all_off r t [] h = refl
-all_off r t (n ∷ ns) h = go (waits r t n) refl h
+all_off r t (n ∷ ns) h = go (all_off r t ns) (waits r t n) refl h
   where
-    go : (b : Bool) → waits r t n ≡ b → (b && list_all (waits r t) ns) ≡ true → (is_enabled r t n || list_any (is_enabled r t) ns) ≡ false
-    go true e i = rw (waiting_off r t n e) (all_off r t ns i)
-    go false e i = absurd (no_way i)
+    go : (list_all (waits r t) ns ≡ true → list_any (is_enabled r t) ns ≡ false) → (b : Bool) → waits r t n ≡ b → (b && list_all (waits r t) ns) ≡ true → (is_enabled r t n || list_any (is_enabled r t) ns) ≡ false
+    go others true e i = rw (waiting_off r t n e) (others i)
+    go others false e i = absurd (no_way i)
 
 pub stuck_is : (r : Rules) (t : List Entry)
     → ((n : ℕ) → is_stuck r t ≡ true → has (next_of r t) n ≡ true → (m : ℕ) × (r.role t n ≡ Waiting m) × (has (marks t) m ≡ false))
@@ -234,9 +234,9 @@ abbrev pub GoOn : Entry → Option Editing → Option Editing → Type 0
 GoOn x None new = new ≡ None
 GoOn x (Some old) new = (e : Editing) × (new ≡ Some e) × SentMore x old e
 
-has_append : (as bs : List ℕ) (n : ℕ) → has (as ++ bs) n ≡ (has as n || has bs n)
-has_append [] bs n = refl
-has_append (a ∷ as) bs n = ap (λ (b : Bool). (a == n) || b) (has_append as bs n) ∙ assoc (a == n) (has as n) (has bs n)
+has_append : (ks ms : List ℕ) (n : ℕ) → has (ks ++ ms) n ≡ (has ks n || has ms n)
+has_append [] ms n = refl
+has_append (k ∷ ks) ms n = ap (λ (b : Bool). (k == n) || b) (has_append ks ms n) ∙ assoc (k == n) (has ks n) (has ms n)
   where
     assoc : (a b c : Bool) → (a || (b || c)) ≡ ((a || b) || c)
     assoc true b c = refl
@@ -281,13 +281,17 @@ followed project t x old new scripts counts m g k =
 
 -- ---- after a verdict
 
+append_none : (ns : List ℕ) → ns ++ [] ≡ ns
+append_none [] = refl
+append_none (n ∷ ns) = ap (λ (ms : List ℕ). n ∷ ms) (append_none ns)
+
 put_longer : (store : List Entity) (item : Entity) → length (put_in store item) ≤ length store + 1
 put_longer [] item = omega arith
-put_longer (entity ∷ store) item = go (entity.number == item.number)
+put_longer (entity ∷ store) item = go (put_longer store item) (entity.number == item.number)
   where
-    go : (b : Bool) → length (if b then item ∷ store else entity ∷ put_in store item) ≤ length (entity ∷ store) + 1
-    go true = omega arith
-    go false = let h = put_longer store item in omega (arith, h)
+    go : length (put_in store item) ≤ length store + 1 → (b : Bool) → length (if b then item ∷ store else entity ∷ put_in store item) ≤ length (entity ∷ store) + 1
+    go h true = omega arith
+    go h false = omega (arith, h)
 
 all_longer : (store items : List Entity) → length (put_items store items) ≤ length store + length items
 all_longer store [] = omega arith
@@ -330,6 +334,9 @@ rises_little script store n i Accepted = go (slice_get script i)
     go None = omega arith
     go (Some edit) = one (is_reached store edit.items n)
 
+plain_low : (script : List Edit) (store : List Entity) (n : ℕ) (t : List Entry) → version_from script store n (events_of t) ≤ judged t → rises_by script store n Other + version_from script store n (events_of t) ≤ judged t
+plain_low script store n t h = omega (arith, h)
+
 -- a version is no more than the verdicts so far
 pub version_low : (script : List Edit) (store : List Entity) (n : ℕ) (t : List Entry) → version_from script store n (events_of t) ≤ judged t
 version_low script store n [] = omega arith
@@ -337,15 +344,15 @@ version_low script store n (entries.Edit i w ∷ t) =
     let h = version_low script (store_by script store (Judged i w)) n t in
     let g = rises_little script store n i w in
     omega (arith, g, h)
-version_low script store n (entries.Dispatch m v ∷ t) = version_low script store n t
-version_low script store n (entries.Block m k b ∷ t) = version_low script store n t
-version_low script store n (entries.End m ∷ t) = version_low script store n t
-version_low script store n (entries.Pick m k ∷ t) = version_low script store n t
-version_low script store n (entries.Test m b ∷ t) = version_low script store n t
-version_low script store n (entries.Assign m x ∷ t) = version_low script store n t
-version_low script store n (entries.Set m ∷ t) = version_low script store n t
-version_low script store n (entries.Pass m ∷ t) = version_low script store n t
-version_low script store n (entries.Note m ∷ t) = version_low script store n t
+version_low script store n (entries.Dispatch m v ∷ t) = plain_low script store n t (version_low script store n t)
+version_low script store n (entries.Block m k b ∷ t) = plain_low script store n t (version_low script store n t)
+version_low script store n (entries.End m ∷ t) = plain_low script store n t (version_low script store n t)
+version_low script store n (entries.Pick m k ∷ t) = plain_low script store n t (version_low script store n t)
+version_low script store n (entries.Test m b ∷ t) = plain_low script store n t (version_low script store n t)
+version_low script store n (entries.Assign m x ∷ t) = plain_low script store n t (version_low script store n t)
+version_low script store n (entries.Set m ∷ t) = plain_low script store n t (version_low script store n t)
+version_low script store n (entries.Pass m ∷ t) = plain_low script store n t (version_low script store n t)
+version_low script store n (entries.Note m ∷ t) = plain_low script store n t (version_low script store n t)
 
 -- the verdict is that of the sent steps in whatever order
 pub verdict_is : (project : List Entity) (script : List Edit) (t : List Entry) (i : ℕ) (edit : Edit) (members : List ℕ) → slice_get script i ≡ Some edit → ((n : ℕ) → has members n ≡ has (sent t) n)
@@ -402,10 +409,6 @@ refused project t old new edit rule a b e scripts counts same m k =
       sent_are = λ n. h.sent_are n ∙ ap (λ (ns : List ℕ). has ns n) (sym (m.sent_same ∙ append_none (sent t)));
       room = subst (λ (j : ℕ). items_in (drop j old.script) ≤ it.versions.spare) (sym m.judged_more) (fewer (judged t) it.versions.spare (sym k.count) h.room);
     }
-
-append_none : (ns : List ℕ) → ns ++ [] ≡ ns
-append_none [] = refl
-append_none (n ∷ ns) = ap (λ (ms : List ℕ). n ∷ ms) (append_none ns)
 
 -- what is kept after an edit that is accepted, and put
 pub accepted : (project : List Entity) (t : List Entry) (old new : Edits) (edit : Edit) (before after : Editing) → slice_get old.script old.judged ≡ Some edit → new.script ≡ old.script → new.judged ≡ old.judged + 1

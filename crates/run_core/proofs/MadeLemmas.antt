@@ -4,6 +4,7 @@ use Rattle.std.specs.Result.{result_ok}
 use Rattle.std.proofs.Common.{refl, sym, ap, subst, ◌∙◌, inl, inr, arith}
 use Rattle.std.proofs.lemmas.Bool.Decides.{nat_tests}
 use Rattle.path_blocks.specs.declared.block.Block.{Block as PathBlock}
+use Rattle.path_blocks.specs.declared.def.Def.{Def}
 use Rattle.entity_types.specs.declared.entity.Entity.{Entity}
 use Rattle.entity_types.specs.declared.edit.Edit.{Edit as ScriptEdit}
 use Rattle.project_store.specs.Entities.{entity_at}

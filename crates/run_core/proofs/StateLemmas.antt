@@ -19,7 +19,8 @@ use Rattle.exec_tree.specs.Said.{Said, said_for, target_of}
 use Rattle.exec_tree.specs.Walked.{place_from}
 use Rattle.exec_tree.specs.Built.{TreeValue, channel_in, said_in}
 use Rattle.trace_law.specs.Of.{number_of, has_some}
-use Rattle.trace_law.specs.State.{dispatched, marked, stage, is_open}
+use Rattle.nc_base.specs.declared.verdict.Verdict.{Verdict}
+use Rattle.trace_law.specs.State.{dispatched, marked, marks, stage, is_open}
 use Rattle.trace_law.specs.Offer.{Offer, Starts, Cuts, Does, Picks, Tests, Nothing, offer, IsOffered}
 use Rattle.run_log.specs.declared.entry.Entry.{Entry}
 use Rattle.run_log.specs.declared.entry.Entry.TheVariants.{Dispatch, Block, End, Pick, Test, Assign, Set, Pass, Note, Edit}
@@ -242,3 +243,32 @@ none_open r slots h = record {
   opens = λ n. ap (λ (o : Option OpenStep). is_step_of o n) (sym (h (r.channel [] n)));
   each = λ c. subst (λ (o : Option OpenStep). IfSome o (λ p. IsOpenStep r [] c p)) (sym (h c)) tt;
 }
+
+-- ---- after a verdict
+
+-- a verdict leaves the tree's run as it is
+pub edit_follows : (project : List Entity) (script : List ScriptEdit) (tree : TreeValue) (frames : Frames) (t : List Entry) (flags : List Bool) (vars : List (ℕ × ℤ)) (slots : List (Option OpenStep)) (i : ℕ) (w : Verdict)
+    → IsState project script tree frames t flags vars slots → Legal project script (t ++ Edit i w ∷ []) → plain (t ++ Edit i w ∷ []) ≡ plain t → marks (t ++ Edit i w ∷ []) ≡ marks t ++ []
+    → ((v : ℕ) → vars_after script project (t ++ Edit i w ∷ []) v ≡ vars_after script project t v) → ((n : ℕ) → stage n (t ++ Edit i w ∷ []) ≡ stage n t)
+    → ((n : ℕ) → (rules_of project script).path (t ++ Edit i w ∷ []) n ≡ (rules_of project script).path t n) → IsState project script tree frames (t ++ Edit i w ∷ []) flags vars slots
+edit_follows project script tree frames t flags vars slots i w k legal plains marked_so vars_so stages paths = record {
+  tree_is = k.tree_is;
+  at = subst (IsAt tree.nodes frames) (sym plains) k.at;
+  legal = legal;
+  flags_fit = k.flags_fit;
+  marks_are = λ n. k.marks_are n ∙ ap (λ (ns : List ℕ). has ns n) (sym (marked_so ∙ append_none (marks t)));
+  vars_are = λ v. k.vars_are v ∙ sym (vars_so v);
+  vars_there = k.vars_there;
+  steps_are = record {
+    opens = λ n. ap is_some (stages n) ∙ k.steps_are.opens n;
+    each = λ c. each c (slot_at slots c) (k.steps_are.each c);
+  };
+}
+  where
+    append_none : (ns : List ℕ) → ns ++ [] ≡ ns
+    append_none [] = refl
+    append_none (n ∷ ns) = ap (λ (ms : List ℕ). n ∷ ms) (append_none ns)
+
+    each : (c : ℕ) (slot : Option OpenStep) → IfSome slot (λ o. IsOpenStep (rules_of project script) t c o) → IfSome slot (λ o. IsOpenStep (rules_of project script) (t ++ Edit i w ∷ []) c o)
+    each c None h = tt
+    each c (Some o) h = record { channel = h.channel; among = h.among; path = paths o.step ∙ h.path }

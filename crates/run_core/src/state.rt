@@ -33,6 +33,7 @@ use crate::planning::plan_of;
 use crate::questions::{Any, ReadyIn, Waitless};
 use crate::variables::{self, answer_of, opening_vars, value_of};
 use edit_rules::Project;
+use edit_rules::laws::tree_steps_are_workingsteps;
 use entity_types::Script;
 use exec_tree::Tree;
 use exec_tree::laws::{places_are_found, trees_are_sound, trees_tell};
@@ -219,6 +220,8 @@ impl RunState {
         trees_tell();
         trees_are_sound();
         let log = Vec::with_capacity(alloc, limit as usize)?;
+        project.sound();
+        tree_steps_are_workingsteps();
         let (store, tree) = project.parts();
         let edits = Edits::open(alloc, &store, tree.steps(), script)?;
         let frames = Frames::open(alloc, &tree)?;
@@ -296,7 +299,7 @@ impl RunState {
         ensures { result ≡ is_due (rules_of self.now.project self.now.script) self.now.list }
     {
         stuck_project_waits();
-        self.edits.are_due(self.log.len(), waiting)
+        self.edits.are_due(self.log.as_slice().len(), waiting)
     }
 
     /// Whether a node where the run can go on is dispatched next.

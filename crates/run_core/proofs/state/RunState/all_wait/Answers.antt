@@ -5,7 +5,7 @@ use Rattle.project_store.specs.Entities.{entity_at}
 use Rattle.exec_tree.specs.TreeFault.{nothing_seen}
 use Rattle.exec_tree.specs.TreeOf.{tree_of}
 use Rattle.exec_tree.specs.Built.{main_of}
-use Rattle.run_law.specs.Fits.{next_of}
+use Rattle.run_law.specs.Fits.{next_of, plain}
 use Rattle.run_law.specs.Endings.{waits}
 use Rattle.project_law.specs.ProjectRules.{rules_of}
 use Rattle.run_core.specs.Kept.{State}

@@ -25,7 +25,9 @@ use Rattle.run_core.specs.Edits.{AreKept}
 use Rattle.run_core.proofs.QuestionLemmas.{filter_has}
 use Rattle.run_core.proofs.KindLemmas.{store_done_by, works_has}
 use Rattle.run_core.proofs.FollowLemmas.{is_of_node, IsOfNode}
-use Rattle.run_core.proofs.StateLemmas.{Entered, state_follows, follows_is, channel_small}
+use Rattle.trace_law.specs.Offer.{offer, IsOffered}
+use Rattle.run_core.proofs.EditLemmas.{step_has_version}
+use Rattle.run_core.proofs.StateLemmas.{started_kind, Entered, state_follows, follows_is, channel_small}
 use Rattle.run_core.proofs.state.RunState.follow.Goals as goal
 
 pub follow-requires : goal.follow-requires
@@ -102,3 +104,24 @@ advance-requires c =
     let part : Part e (u ++ x ∷ []) = of_node.fits.goes_on in
     let ordered : IsNextOf e u x = subst (λ (v : State). IsNextOf ((rules_of v.project v.script).tree v.list) (plain v.list) x) (sym c.self.view_is) c.requires.in_order in
     (u, k.at, subst (λ (y : Exec). Part y (u ++ x ∷ [])) (sym k.tree_is.held) part, subst (λ (y : Exec). IsNextOf y u x) (sym k.tree_is.held) ordered)
+
+pub follow-requires-2-clause-known : goal.follow-requires-2-clause-known
+follow-requires-2-clause-known c = λ n v f.
+    let p = c.self.inside.store in
+    let s = c.self.inside.edits.script in
+    let t = c.self.inside.log.items in
+    let k = c.self.invariant.0 in
+    let x = c.args.entry in
+    let e = tree_of (entity_at p) (main_of p) in
+    let u = plain t in
+    let d = c.trees_are_sound.ensures.distinct nothing_seen (entity_at p) (main_of p) k.tree_is.no_fault in
+    let fits : Fits (rules_of p s) t x = subst (λ (w : State). Fits (rules_of w.project w.script) w.list x) (sym c.self.view_is) c.requires.fits in
+    let of_node : IsOfNode (rules_of p s) t x = is_of_node (rules_of p s) t x c.requires.node fits in
+    let number : number_of x ≡ Some n = ap number_of f in
+    let off = c.what_is_offered_follows.ensures.offered e u x n d of_node.fits.goes_on number in
+    let goes : has (next e u) n ≡ true = subst (λ (o : Option ℕ). has_some (next e u) o ≡ true) number off.0 in
+    let here : has (exec.nodes e) n ≡ true = filter_has (has (next e u)) (exec.nodes e) n (subst (λ (ns : List ℕ). has ns n ≡ true) (c.next_stands_in_preorder.ensures.order e u d) goes) in
+    let kind = started_kind (offer e u n) n n v (kind_at (entity_at p n)) (subst (IsOffered (offer e u n) n) f off.1) (store_done_by (entity_at p) (main_of p) u n here) in
+    let steps = c.trees_are_sound.ensures.steps (entity_at p) (main_of p) in
+    let works = works_has (entity_at p) (main_of p) n (c.trees_are_sound.ensures.nodes (entity_at p) (main_of p)) steps here kind in
+    step_has_version p t c.self.inside.edits n c.self.invariant.1 (subst (λ (ns : List ℕ). has ns n ≡ true) steps works)

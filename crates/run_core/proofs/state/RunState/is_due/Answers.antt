@@ -19,4 +19,4 @@ returns c =
     subst (λ (v : State). c.args.waiting ≡ list_all (waits (rules_of v.project v.script) v.list) (next_of (rules_of v.project v.script) v.list)) (sym c.self.view_is) c.requires in
     let stuck : c.args.waiting ≡ is_stuck (rules_of p s) t = waiting ∙ stuck_is (rules_of p s) t (λ n e f. c.stuck_project_waits.ensures p s t n k.tree_is.no_fault k.legal e f) in
     subst (λ (v : State). c.are_due.result ≡ is_due (rules_of v.project v.script) v.list) c.self.view_is
-    (c.are_due.ensures ∙ (ap (λ (count : ℕ). due_by (slice_get s c.self.inside.edits.judged) count c.args.waiting) c.len.ensures ∙ due_is p s t c.self.inside.edits.judged c.args.waiting c.self.invariant.1.count stuck))
+    (c.are_due.ensures ∙ (ap (λ (count : ℕ). due_by (slice_get s c.self.inside.edits.judged) count c.args.waiting) (ap length c.as_slice.ensures.value) ∙ due_is p s t c.self.inside.edits.judged c.args.waiting c.self.invariant.1.count stuck))

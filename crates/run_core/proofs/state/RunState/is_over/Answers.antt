@@ -1,7 +1,7 @@
 use Rattle.std.proofs.Common.{◌≡◌, ◌∙◌, subst, ap, ℕ, []}
 use Rattle.std.specs.Prelude.{Option, is_none}
 use Rattle.trace_law.specs.Below.{tree_in}
-use Rattle.run_law.specs.Fits.{next_of}
+use Rattle.run_law.specs.Fits.{next_of, plain}
 use Rattle.project_law.specs.ProjectRules.{rules_of}
 use Rattle.run_core.specs.Kept.{State}
 use Rattle.run_core.specs.Standings.{is_empty}

@@ -118,8 +118,8 @@ deed-deed-requires c =
     let goes : has (next e u) c.args.n ≡ true = is_next in
     (u, k.at, subst (λ (x : Exec). has (next x u) c.args.n ≡ true) (sym k.tree_is.held) goes)
 
-pub plan_by-plan-requires : goal.plan_by-plan-requires
-plan_by-plan-requires c =
+pub plan_by-requires : goal.plan_by-requires
+plan_by-requires c =
     let p = c.self.inside.store in
     let s = c.self.inside.edits.script in
     let t = c.self.inside.log.items in

@@ -5,6 +5,7 @@ use Rattle.exec_tree.specs.TreeOf.{tree_of}
 use Rattle.exec_tree.specs.Built.{main_of}
 use Rattle.run_law.specs.Replay.{ready}
 use Rattle.project_law.specs.ProjectRules.{rules_of}
+use Rattle.run_law.specs.Fits.{plain}
 use Rattle.run_core.specs.Kept.{State}
 use Rattle.run_core.proofs.QuestionLemmas.{told, ready_is}
 use Rattle.run_core.proofs.state.RunState.ready.Goals as goal

@@ -7,7 +7,7 @@ use Rattle.trace_law.specs.Below.{tree_in}
 use Rattle.trace_law.specs.Next.{next}
 use Rattle.trace_law.specs.Offer.{offer}
 use Rattle.run_log.specs.declared.entry.Entry.{Entry}
-use Rattle.run_law.specs.Fits.{next_of}
+use Rattle.run_law.specs.Fits.{next_of, plain}
 use Rattle.project_law.specs.ProjectRules.{rules_of}
 use Rattle.run_core.specs.Core.{does_start, starts_next}
 use Rattle.run_core.specs.Kept.{State}
