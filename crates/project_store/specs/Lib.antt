@@ -7,4 +7,3 @@ pub mod Put
 pub mod Resolved
 pub mod Least
 pub mod Putting
-pub mod Lasts

@@ -1,3 +1,5 @@
 pub mod LeadingLemmas
 pub mod VersionLemmas
 pub mod UnreachedLemmas
+pub mod StepLemmas
+pub mod UserLemmas

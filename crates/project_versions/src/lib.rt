@@ -17,8 +17,8 @@ pub mod laws;
 mod step_order;
 mod step_set;
 mod users;
-mod versions;
+mod gathered;
+mod scratch;
 
 pub use error::PutErr;
 pub use step_set::StepSet;
-pub use versions::Versions;

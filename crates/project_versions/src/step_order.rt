@@ -1,6 +1,7 @@
 //! The workingsteps of a tree in order of number.
 
 ghost use Rattle.std.specs.Prelude.{◌≡◌, IfOk, IfSome, IfNone, slice_get, Some, Contains};
+ghost use Rattle.project_store.specs.Inserts.{is_among};
 
 use nc_base::{NoMemory, Number};
 use std::alloc::Global;
@@ -50,7 +51,15 @@ impl StepOrder {
     pub(crate) fn place_of(&self, n: Number) -> Option<usize>
         ensures found { IfSome result (λ i. slice_get self.now.order i ≡ Some n) }
         ensures none { IfNone result (Contains self.now.steps n → ⊥) }
+        ensures is_order { IsOrderOf self.now.steps self.now.order }
     {
         self.order.as_slice().binary_search(&n).ok()
+    }
+
+    /// Whether a number is one of the steps.
+    pub(crate) fn has(&self, n: Number) -> bool
+        ensures { result ≡ is_among self.now.steps n }
+    {
+        self.place_of(n).is_some()
     }
 }
