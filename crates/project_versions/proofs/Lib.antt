@@ -3,3 +3,5 @@ pub mod VersionLemmas
 pub mod UnreachedLemmas
 pub mod StepLemmas
 pub mod UserLemmas
+pub mod GrownLemmas
+pub mod BackwardLemmas

@@ -64,7 +64,7 @@ link_fewer edges x back _ j le (further k _ edge at more) = go (got_cases edges 
     go (inl old) rec = further k j edge old (rec old)
     go (inr new) rec = absurd (omega (arith, new.0, le))
 
-link_cases : (edges : List Edge) (m h k : ℕ) → h ≡ suc m → Linked edges h k → (k ≡ m) ⊎ ((edge : Edge) × (slice_get edges m ≡ Some edge) × Linked edges edge.next k)
+pub link_cases : (edges : List Edge) (m h k : ℕ) → h ≡ suc m → Linked edges h k → (k ≡ m) ⊎ ((edge : Edge) × (slice_get edges m ≡ Some edge) × Linked edges edge.next k)
 link_cases edges m _ _ e (here k) = inl (omega (arith, e))
 link_cases edges m _ j e (further k _ edge at more) =
     let same : k ≡ m = omega (arith, e) in

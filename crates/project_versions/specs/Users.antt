@@ -1,9 +1,9 @@
 -- The index of direct users: for each entity of a store the entities that refer to it.
-use Rattle.std.specs.Prelude.{◌≡◌, ◌⊎◌, ◌+◌, ◌<◌, ◌≤◌, ℕ, zero, suc, List, [], ◌∷◌, ◌++◌, length, slice_get, slice_index_or, slice_set, Option, Some, Contains}
+use Rattle.std.specs.Prelude.{◌≡◌, ◌↔◌, ◌⊎◌, ◌+◌, ◌<◌, ◌≤◌, ℕ, zero, suc, List, [], ◌∷◌, ◌++◌, length, slice_get, slice_index, slice_index_or, slice_set, Option, Some, Contains}
 use Rattle.entity_types.specs.declared.entity.Entity.{Entity}
 use Rattle.entity_types.specs.Entity.{uses_of}
 use Rattle.project_store.specs.Entities.{entity_at}
-use Rattle.project_store.specs.Inserts.{insert_all, uses_at}
+use Rattle.project_store.specs.Inserts.{uses_at}
 use Rattle.project_store.specs.Put.{put_all}
 use Rattle.project_versions.specs.declared.users.Edge.{Edge}
 use Rattle.project_versions.specs.declared.users.Users.{Users}
@@ -95,10 +95,16 @@ abbrev pub uses_count : List Entity → ℕ
 uses_count [] = 0
 uses_count (entity ∷ entities) = length (uses_of entity) + uses_count entities
 
+-- a set that keeps the order in which its members came, with these numbers put in
+pub record Grown (old new put : List ℕ) : Type 0 where
+  pub members : (n : ℕ) → Contains new n ↔ (Contains old n ⊎ Contains put n)
+  pub kept : (k : ℕ) → k < length old → slice_index new k ≡ slice_index old k
+  pub grows : length old ≤ length new
+
 -- numbers put into a set: those of the entities that use a number
 pub record AddsUsers (entities : ℕ → Option Entity) (number : ℕ) (old new : List ℕ) : Type 0 where
   pub users : List ℕ
-  pub put : new ≡ insert_all old users
+  pub put : Grown old new users
   pub are : (n : ℕ) → Contains users n → Contains (uses_at entities n) number
   pub all : (n : ℕ) → Contains (uses_at entities n) number → Contains users n
 
@@ -114,14 +120,14 @@ pub record IsUserAt (store : List Entity) (rows : Rows) (k n : ℕ) : Type 0 whe
 -- numbers put into a set: that of the user of the edge at index k, where the edge is still in its row
 pub record AddsEdge (store : List Entity) (rows : Rows) (k : ℕ) (old new : List ℕ) : Type 0 where
   pub users : List ℕ
-  pub put : new ≡ insert_all old users
+  pub put : Grown old new users
   pub are : (n : ℕ) → Contains users n → IsUserAt store rows k n
   pub all : (n : ℕ) → IsUserAt store rows k n → Contains users n
 
 -- numbers put into a set: those of the users of edges that are linked from head, and of all of them but those that are linked from link
 pub record AddsLinked (store : List Entity) (rows : Rows) (head link : ℕ) (old new : List ℕ) : Type 0 where
   pub users : List ℕ
-  pub put : new ≡ insert_all old users
+  pub put : Grown old new users
   pub back : (k : ℕ) → Linked rows.edges link k → Linked rows.edges head k
   pub are : (n : ℕ) → Contains users n → (k : ℕ) × Linked rows.edges head k × IsUserAt store rows k n
   pub all : (n k : ℕ) → Linked rows.edges head k → IsUserAt store rows k n → Contains users n ⊎ Linked rows.edges link k

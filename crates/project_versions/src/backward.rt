@@ -3,9 +3,9 @@
 ghost use Rattle.std.specs.Prelude.{◌≡◌, ◌↔◌, ◌<◌, ◌≤◌, ℕ, [], length, IfOk, OnOk, Contains, filter};
 ghost use Rattle.std.specs.List.Sorted.{IsStrictlyIncreasing};
 ghost use Rattle.project_store.specs.Entities.{numbers_of, entity_at};
-ghost use Rattle.project_store.specs.Inserts.{is_among, insert_all, AreMembers};
+ghost use Rattle.project_store.specs.Inserts.{is_among, AreMembers};
 ghost use Rattle.project_versions.specs.Reach.{Reach};
-ghost use Rattle.project_versions.specs.Users.{rows_of, AreLinked, HasRows, IsUserIndex, AddsUsers, AddsEdge, AddsLinked};
+ghost use Rattle.project_versions.specs.Users.{rows_of, AreLinked, HasRows, IsUserIndex, AddsUsers, AddsEdge, AddsLinked, Grown};
 ghost use Rattle.project_versions.specs.Versioned.{AreReached};
 
 use crate::gathered::Gathered;
@@ -84,7 +84,7 @@ fn insert_users(
 
 /// The numbers that items put.
 fn put_numbers(alloc: Global, items: &[Entity]) -> Result<Gathered, NoMemory>
-    ensures order { IfOk result (λ set. set.order.items ≡ insert_all [] (numbers_of items.now)) }
+    ensures order { IfOk result (λ set. Grown [] set.order.items (numbers_of items.now)) }
     ensures members { IfOk result (λ set. AreMembers set.order.items set.members) }
 {
     let mut set = Gathered::new(alloc);
@@ -123,7 +123,7 @@ fn steps_among(
     numbers: &BTreeSet<Number>,
 ) -> Result<NumberList, NoMemory>
     ensures list { IfOk result (λ list. list ≡ filter (is_among order.now.steps) numbers.now.keys) }
-    ensures rising { IsStrictlyIncreasing numbers.now.keys }
+    ensures rising { IfOk result (λ _. IsStrictlyIncreasing numbers.now.keys) }
 {
     let mut list = NumberList::new(alloc);
     for number in numbers {
