@@ -15,7 +15,7 @@ use Rattle.project_store.specs.Entities.{numbers_of, entity_at}
 use Rattle.project_store.specs.Inserts.{is_among, insert_number, uses_at}
 use Rattle.project_store.specs.Reach.{Reaches, root, used}
 use Rattle.project_versions.specs.Reach.{after, is_put, Reach}
-use Rattle.project_versions.specs.Scratch.{IsAt}
+use Rattle.project_store.specs.Places.{IsAt}
 use Rattle.project_versions.specs.StepSet.{IsOrderOf}
 use Rattle.project_versions.specs.Versioned.{AreReached}
 use Rattle.project_versions.specs.declared.users.Edge.{Edge}

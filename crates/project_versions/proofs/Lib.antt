@@ -5,3 +5,5 @@ pub mod StepLemmas
 pub mod UserLemmas
 pub mod GrownLemmas
 pub mod BackwardLemmas
+pub mod RaisingLemmas
+pub mod KeptLemmas

@@ -13,7 +13,7 @@ use Rattle.entity_types.specs.Entity.{uses_of, references_of}
 use Rattle.project_store.specs.Entities.{numbers_of, entity_at}
 use Rattle.project_store.specs.Inserts.{uses_at}
 use Rattle.project_store.specs.Put.{put, put_all}
-use Rattle.project_versions.specs.Scratch.{IsAt}
+use Rattle.project_store.specs.Places.{IsAt}
 use Rattle.project_versions.specs.declared.users.Edge.{Edge}
 use Rattle.project_versions.specs.Users.{Rows, Linked, here, further, IsEdge, RowIsRight, RowsAreRight, AreLinked, HasRows, Links, SetsRow, PutsRows, with_edge, uses_count, IsUserIndex}
 

@@ -3,4 +3,4 @@ pub mod Versions
 pub mod StepSet
 pub mod Versioned
 pub mod Users
-pub mod Scratch
+pub mod Kept

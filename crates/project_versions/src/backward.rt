@@ -8,13 +8,12 @@ ghost use Rattle.project_versions.specs.Reach.{Reach};
 ghost use Rattle.project_versions.specs.Users.{rows_of, AreLinked, HasRows, IsUserIndex, AddsUsers, AddsEdge, AddsLinked, Grown};
 ghost use Rattle.project_versions.specs.Versioned.{AreReached};
 
-use crate::gathered::Gathered;
-use crate::scratch::{closed, place_of};
+
 use crate::step_order::StepOrder;
 use crate::users::Users;
 use entity_types::Entity;
 use nc_base::{NoMemory, Number, NumberList};
-use project_store::Store;
+use project_store::{Gathered, Store};
 use std::alloc::Global;
 use std::collections::BTreeSet;
 
@@ -75,8 +74,8 @@ fn insert_users(
     ensures order { OnOk result (AddsUsers (entity_at store.now) number set.old.order.items set.new.order.items) }
     ensures members { OnOk result (AreMembers set.new.order.items set.new.members) }
 {
-    closed(store);
-    match place_of(store, number) {
+    store.closed();
+    match store.place_of(number) {
         Some(place) => insert_linked(set, users, store, users.heads[place]),
         None => Ok(()),
     }

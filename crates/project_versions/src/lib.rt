@@ -7,6 +7,7 @@
 //! | error | why an edit isn't put | `PutErr` |
 //! | laws | what the definitions of edits mean | `laws` |
 //! | step_order | the workingsteps in order of number | |
+//! | raising | versions raised | |
 //! | users | the index of direct users: what refers to an entity | |
 //! | backward | what leads to the items of an edit, found backwards | |
 #![tactic(auto)]
@@ -14,11 +15,12 @@
 mod backward;
 mod error;
 pub mod laws;
+mod raising;
 mod step_order;
 mod step_set;
 mod users;
-mod gathered;
-mod scratch;
+mod versions;
 
 pub use error::PutErr;
 pub use step_set::StepSet;
+pub use versions::Versions;

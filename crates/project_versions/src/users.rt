@@ -8,7 +8,6 @@ ghost use Rattle.std.specs.Prelude.{◌≡◌, ◌+◌, ◌<◌, ◌≤◌, [], 
 ghost use Rattle.entity_types.specs.Entity.{uses_of};
 ghost use Rattle.project_versions.specs.Users.{rows_of, AreLinked, HasRows, IsUserIndex, Links, SetsRow, PutsRows, with_edge, uses_count};
 
-use crate::scratch::{entities, place_of};
 use entity_types::Entity;
 use nc_base::{NoMemory, Number};
 use project_store::Store;
@@ -75,7 +74,7 @@ impl Users {
             since: zeros(alloc, count)?,
             edges: Vec::new(alloc),
         };
-        let all = entities(store);
+        let all = store.as_slice();
         users.reserve(all)?;
         users.put(store, all);
         Ok(users)
@@ -119,7 +118,7 @@ impl Users {
         ensures len { vec_len self.new.edges ≤ vec_len self.old.edges + 1 }
         ensures capacity { vec_capacity self.new.edges ≡ vec_capacity self.old.edges }
     {
-        if let Some(place) = place_of(store, reference) {
+        if let Some(place) = store.place_of(reference) {
             self.link(place, user);
         }
     }
@@ -177,7 +176,7 @@ impl Users {
         ensures len { vec_len self.new.edges ≤ vec_len self.old.edges + length (uses_of item.now) }
         ensures capacity { vec_capacity self.new.edges ≡ vec_capacity self.old.edges }
     {
-        if let Some(place) = place_of(store, item.number) {
+        if let Some(place) = store.place_of(item.number) {
             self.set_row(store, place, item);
         }
     }

@@ -8,4 +8,4 @@ pub returns-clause-index : goal.returns-clause-index
 returns-clause-index c =
     let store = c.args.store.now in
     index_made store (rows_of c.reserve.new.self) (rows_of c.put.new.self) c.len.ensures.distinct (ap (λ (rows : Rows). rows.edges) c.reserve.ensures.rows ∙ c.new.ensures.items)
-    (subst (PutsRows store (rows_of c.reserve.new.self) (rows_of c.put.new.self)) c.entities-all.ensures c.put.ensures)
+    (subst (PutsRows store (rows_of c.reserve.new.self) (rows_of c.put.new.self)) c.as_slice-all.ensures c.put.ensures)

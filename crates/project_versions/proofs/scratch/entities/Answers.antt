@@ -1,4 +1,0 @@
-use Rattle.project_versions.proofs.scratch.entities.Goals as goal
-
-pub returns : goal.returns
-returns c = ?

@@ -1,7 +1,0 @@
-use Rattle.project_versions.proofs.scratch.place_of.Goals as goal
-
-pub returns-clause-found : goal.returns-clause-found
-returns-clause-found c = ?
-
-pub returns-clause-none : goal.returns-clause-none
-returns-clause-none c = ?
