@@ -44,11 +44,11 @@ version_at order versions n i rising at len = version_there order versions n i (
 pub version_none : (order : List ℕ) (k n : ℕ) → version_of (counted order (replicate k 0)) n ≡ 0
 version_none [] k n = refl
 version_none (m ∷ ms) zero n = refl
-version_none (m ∷ ms) (suc k) n = go (m == n) refl
+version_none (m ∷ ms) (suc k) n = go (m == n) refl (version_none ms k n)
   where
-    go : (b : Bool) → (m == n) ≡ b → version_of (counted (m ∷ ms) (0 ∷ replicate k 0)) n ≡ 0
-    go true e = rw e refl
-    go false e = rw e (version_none ms k n)
+    go : (b : Bool) → (m == n) ≡ b → version_of (counted ms (replicate k 0)) n ≡ 0 → version_of (counted (m ∷ ms) (0 ∷ replicate k 0)) n ≡ 0
+    go true e rest = rw e refl
+    go false e rest = rw e rest
 
 -- ---- raised
 

@@ -38,7 +38,7 @@ impl Model for Versions {
 
     ghost view = { λ a. record { store = a.store; steps = a.order.steps; versions = counted a.order.order a.versions.items; spare = a.spare } };
 
-    ghost invariant = { λ a. IsKept a.store a.users a.order.order a.versions.items a.spare };
+    ghost invariant = { λ a. IsKept a.store a.users a.order a.versions.items a.spare };
 }
 
 /// The items of an edit, copied.
@@ -136,13 +136,13 @@ impl Versions {
         let Ok(items) = copy_of(alloc, &edit) else {
             return Err(PutErr::NoMemory(edit));
         };
-        if self.users.reserve(edit.items.as_slice()).is_err() {
+        let Ok(()) = self.users.reserve(edit.items.as_slice()) else {
             return Err(PutErr::NoMemory(edit));
-        }
+        };
         let before = self.store.len();
-        if self.store.put(items).is_err() {
+        let Ok(()) = self.store.put(items) else {
             return Err(PutErr::NoMemory(edit));
-        }
+        };
         self.spare -= (self.store.len() - before) as u32;
         self.users.put(&self.store, edit.items.as_slice());
         raise(&self.order, &mut self.versions, reached.as_slice());

@@ -1,4 +1,4 @@
-use Rattle.std.proofs.Common.{◌≡◌, ◌<◌, length, arith}
+use Rattle.std.proofs.Common.{◌≡◌, ◌<◌, ℕ, Option, IfNone, Contains, length, subst, arith}
 use Rattle.std.proofs.lemmas.List.{get_or_read}
 use Rattle.std.proofs.lemmas.Option.{slice_get_within}
 use Rattle.project_versions.proofs.RaisingLemmas.{version_at, raised, not_raised}
@@ -19,4 +19,5 @@ returns-in-Some c =
 
 pub returns-in_default : goal.returns-in_default
 returns-in_default c =
-    not_raised c.args.order.now.steps c.args.order.now.order c.args.versions.now.items c.args.step c.place_of.ensures.is_order ?
+    not_raised c.args.order.now.steps c.args.order.now.order c.args.versions.now.items c.args.step c.place_of.ensures.is_order
+    (subst (λ (o : Option ℕ). IfNone o (Contains c.args.order.now.steps c.args.step → ⊥)) c.in_default.is c.place_of.ensures.none)
