@@ -1,4 +1,4 @@
-//! Tests of stores, of definitions and of reading projects.
+//! Tests of stores, of definitions, of versions and of reading projects.
 #![tactic(auto)]
 
 #[cfg(test)]
@@ -11,3 +11,5 @@ mod putting;
 mod reading;
 #[cfg(test)]
 mod store;
+#[cfg(test)]
+mod versions;
