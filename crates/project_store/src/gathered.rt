@@ -10,13 +10,14 @@ use std::collections::BTreeSet;
 /// Numbers, each once: in the order in which they came, and as a tree, which says whether one is there. A tree takes no longer for
 /// any choice of numbers, as a hash with a seed that is known would.
 #[derive(Drop)]
-pub(crate) struct Gathered {
-    pub(crate) order: Vec<Number>,
-    pub(crate) members: BTreeSet<Number>,
+pub struct Gathered {
+    pub order: Vec<Number>,
+    pub members: BTreeSet<Number>,
 }
 
 impl Gathered {
-    pub(crate) fn new(alloc: Global) -> Gathered
+    /// No numbers.
+    pub fn new(alloc: Global) -> Gathered
         ensures order { result.order.items ≡ [] }
         ensures members { AreMembers result.order.items result.members }
     {
@@ -26,7 +27,8 @@ impl Gathered {
         }
     }
 
-    pub(crate) fn insert(&mut self, number: Number) -> Result<(), NoMemory>
+    /// Puts in a number, where it is not there already. Where memory runs out nothing is said of the set: it is to be dropped.
+    pub fn insert(&mut self, number: Number) -> Result<(), NoMemory>
         requires { AreMembers self.old.order.items self.old.members }
         ensures order { OnOk result (self.new.order.items ≡ insert_number self.old.order.items number) }
         ensures members { OnOk result (AreMembers self.new.order.items self.new.members) }

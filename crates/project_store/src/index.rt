@@ -59,6 +59,13 @@ impl Index {
         self.entities.len()
     }
 
+    /// The entities in order.
+    pub fn as_slice(&self) -> &[Entity]
+        ensures { result.now ≡ self.now }
+    {
+        self.entities.as_slice()
+    }
+
     /// The entity at index `i`.
     pub fn at(&self, i: usize) -> &Entity
         requires { i < length self.now }

@@ -12,7 +12,7 @@
 //! | places | where the entity of a number stands: a search, no hash | |
 //! | build | the faults of a list of entities | |
 //! | putting | items put into entities | |
-//! | gathered | numbers, each once in the order in which they came | |
+//! | gathered | numbers, each once in the order in which they came | `Gathered` |
 //!
 //! Its tests stand in the crate definition_tests.
 #![tactic(auto)]
@@ -31,6 +31,7 @@ mod store;
 
 pub use entities::Entities;
 pub use error::StoreErr;
+pub use gathered::Gathered;
 pub use laws::{least_faults, put_keeps_a_store};
 pub use overlay::Overlay;
 pub use reach::closure;

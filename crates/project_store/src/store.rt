@@ -1,9 +1,10 @@
 //! The store of a project.
 
-ghost use Rattle.std.specs.Prelude.{◌≡◌, ◌↔◌, ◌<◌, ℕ, [], ◌∷◌, nat_eq, length, slice_get, Some, None, IfOk, OnOk, IfErr, OnErr};
+ghost use Rattle.std.specs.Prelude.{◌≡◌, ◌↔◌, ◌<◌, ℕ, [], ◌∷◌, nat_eq, length, slice_get, Some, None, IfOk, OnOk, IfErr, OnErr, Contains};
 ghost use Rattle.std.specs.List.{IsDistinct};
 ghost use Rattle.project_store.specs.Entities.{numbers_of, entity_at};
 ghost use Rattle.project_store.specs.Build.{Builds, projects_of};
+ghost use Rattle.project_store.specs.Inserts.{uses_at};
 ghost use Rattle.project_store.specs.Places.{IsAt};
 ghost use Rattle.project_store.specs.Put.{put_items};
 ghost use Rattle.project_store.specs.Putting.{CanPut};
@@ -74,6 +75,20 @@ impl Store {
         ensures { IsResolved self.now }
     {
         let _ = &self.index;
+    }
+
+    /// What an entity of the store uses is in it.
+    pub fn closed(&self)
+        ensures { (n r : ℕ) → Contains (uses_at (entity_at self.now) n) r → entity_at self.now r ≡ None → ⊥ }
+    {
+        let _ = &self.index;
+    }
+
+    /// The entities in file order.
+    pub fn as_slice(&self) -> &[Entity]
+        ensures { result.now ≡ self.now }
+    {
+        self.index.as_slice()
     }
 
     /// How many entities there are. Their numbers are distinct.
