@@ -1,13 +1,13 @@
 -- Edits of a text one after another, up to its end or to what refuses it.
-use Rattle.std.proofs.Common.{◌≡◌, ℕ, suc, ◌+◌, ◌-◌, ◌<◌, ◌≤◌, List, [], ◌∷◌, ◌++◌, length, map, drop, Result, Ok, Err, refl, sym, ap, subst, ◌∙◌, length-append, inl, inr, ◌⊎◌, arith}
-use Rattle.std.specs.List.{AllByRecursion, All}
+use Rattle.std.proofs.Common.{◌≡◌, ℕ, suc, ◌-◌, ◌<◌, ◌≤◌, List, [], ◌∷◌, ◌++◌, length, map, drop, Result, Ok, Err, refl, sym, ap, subst, ◌∙◌, length-append, inl, inr, ◌⊎◌, arith}
+use Rattle.std.specs.List.{All}
 use Rattle.std.proofs.lemmas.List.{length-drop}
 use Rattle.std.proofs.lemmas.List.Elements.{recursion_from_All}
 use Rattle.p21_lex.specs.declared.token.Token.{Token}
 use Rattle.p21_lex.specs.Reading.{IsToken}
 use Rattle.p21_lex.specs.Reading as reading
 use Rattle.p21_lex.specs.Tokens.{tokens_of}
-use Rattle.p21_parse.specs.Symbol.{Symbol, symbols, symbol_of}
+use Rattle.p21_parse.specs.Symbol.{Symbol, symbols}
 use Rattle.p21_parse.specs.Spell.{spell_all}
 use Rattle.p21_parse.proofs.Followed.{tokens_few}
 use Rattle.p21_parse.proofs.Parting.{greatest_more}

@@ -1,24 +1,21 @@
 -- The head of an edit, and instances behind it.
-use Rattle.std.proofs.Common.{◌≡◌, ℕ, suc, ◌+◌, ◌<◌, ◌≤◌, nat_lt, Bool, true, false, List, [], ◌∷◌, ◌++◌, length, map, codes, refl, sym, ap, subst, ◌∙◌, append_assoc, append-nil, length-append, inl, inr, ◌⊎◌, IsTrue, arith}
+use Rattle.std.proofs.Common.{◌≡◌, ℕ, suc, ◌<◌, ◌≤◌, nat_lt, Bool, true, false, List, [], ◌∷◌, ◌++◌, length, codes, refl, sym, ap, subst, ◌∙◌, append_assoc, append-nil, inl, inr, ◌⊎◌, IsTrue, arith}
 use Rattle.std.specs.List.{AllByRecursion}
-use Rattle.std.proofs.lemmas.List.{length-map}
 use Rattle.p21_lex.specs.declared.token.TokenKind.TheVariants as kinds
 use Rattle.p21_parse.specs.Tree.{InstanceTree}
 use Rattle.p21_parse.specs.Symbol.{Symbol, value, name, opening, semicolon}
 use Rattle.p21_parse.specs.Spell.{spell_all, spell_instance}
 use Rattle.p21_parse.specs.Grammar.{IsInstance, AreInstances}
-use Rattle.p21_parse.specs.Numbers.{numbers_in, is_behind}
 use Rattle.p21_parse.specs.Begins.{IsSymbol, Begins}
 use Rattle.p21_parse.specs.Refused.{list_numbers}
-use Rattle.p21_parse.specs.Allowed.{own_number_of}
 use Rattle.p21_parse.proofs.Leaves.{above}
 use Rattle.p21_parse.proofs.Sound.{not_above}
 use Rattle.p21_parse.proofs.Finish.{word_each, real_append}
-use Rattle.p21_parse.proofs.Named.{longer_front, real_front, real_back}
-use Rattle.p21_parse.proofs.Owned.{instances_numbers, numbers_append}
+use Rattle.p21_parse.proofs.Named.{longer_front, real_front}
+use Rattle.p21_parse.proofs.Owned.{instances_numbers}
 use Rattle.p21_parse.proofs.Appends.{longer_instance, longer_instances}
 use Rattle.p21_parse.proofs.Unique.{same_instances}
-use Rattle.edit_script.specs.Script.{EditTree, edit_word, at_word, end_word, is_moment, spell_edit, IsEdit, IsScript, HasFew, AreFew, IsFewScript}
+use Rattle.edit_script.specs.Script.{EditTree, edit_word, at_word, end_word, is_moment, spell_edit, IsEdit, IsScript, IsFewScript}
 
 -- ---- marks and words are symbols of tokens
 

@@ -1,5 +1,5 @@
 -- What refuses the instances behind the head of an edit refuses the edit.
-use Rattle.std.proofs.Common.{◌≡◌, ℕ, zero, suc, ◌+◌, ◌<◌, ◌≤◌, false, true, List, [], ◌∷◌, ◌++◌, length, map, drop, refl, sym, ap, subst, ◌∙◌, append_assoc, append-nil, length-append, inl, inr, ◌⊎◌, IsTrue, arith}
+use Rattle.std.proofs.Common.{◌≡◌, ℕ, zero, suc, ◌+◌, ◌<◌, true, List, [], ◌∷◌, ◌++◌, length, map, drop, refl, sym, ap, subst, ◌∙◌, append_assoc, append-nil, length-append, inl, inr, ◌⊎◌, IsTrue, arith}
 use Rattle.std.specs.List.{AllByRecursion}
 use Rattle.std.proofs.lemmas.List.{length-map}
 use Rattle.p21_lex.specs.declared.token.Token.{Token}
@@ -7,7 +7,6 @@ use Rattle.p21_lex.specs.Reading.{IsToken}
 use Rattle.p21_parse.specs.Symbol.{Symbol, name, opening, semicolon}
 use Rattle.p21_parse.specs.Spell.{spell_all, spell_instance}
 use Rattle.p21_parse.specs.Grammar.{IsInstance, AreInstances}
-use Rattle.p21_parse.specs.Nesting.{IsShallow}
 use Rattle.p21_parse.specs.Numbers.{numbers_in, is_behind}
 use Rattle.p21_parse.specs.Begins.{IsSymbol, Begins, StopsAt, DeepAt, ManyAt}
 use Rattle.p21_parse.specs.Places as places

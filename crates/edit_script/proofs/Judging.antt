@@ -1,6 +1,6 @@
 -- Edits one after another, as they are judged.
-use Rattle.std.proofs.Common.{◌≡◌, ℕ, suc, ◌+◌, ◌<◌, ◌≤◌, nat_eq, List, [], ◌∷◌, ◌++◌, length, map, take, drop, get_or, Option, Some, None, Result, Ok, Err, refl, sym, ap, subst, ◌∙◌, add-one, drop-cons, inl, inr, ◌⊎◌, arith}
-use Rattle.std.specs.Prelude.{Bool, true, false, is_some}
+use Rattle.std.proofs.Common.{◌≡◌, ℕ, suc, ◌+◌, ◌<◌, nat_eq, List, [], ◌∷◌, ◌++◌, length, map, take, drop, get_or, Option, Some, None, Result, Ok, Err, refl, sym, ap, subst, ◌∙◌, add-one, drop-cons, inl, inr, arith}
+use Rattle.std.specs.Prelude.{true, false, is_some}
 use Rattle.std.specs.List.{IsDistinct}
 use Rattle.std.proofs.Math.Seq.{take-suc}
 use Rattle.std.proofs.lemmas.List.{take-append-drop, map-append}
@@ -14,7 +14,6 @@ use Rattle.entity_read.specs.declared.error.TypeErr.TheVariants as types
 use Rattle.entity_read.specs.Typed.{EntityTree, entity_of, typed_of, Types}
 use Rattle.edit_script.specs.declared.error.ScriptErr.{ScriptErr}
 use Rattle.edit_script.specs.declared.error.ScriptErr.TheVariants.{Lex, Syntax, TooDeep, TooMany, AtOrder, Repeated, Attribute, NoMemory}
-use Rattle.edit_script.specs.declared.gathered.Gathered.{Gathered}
 use Rattle.edit_script.specs.Script.{EditTree, moment_of}
 use Rattle.edit_script.specs.Edits.{EditModel, model_of, IsRepeat, with_entity, entities_of, IsSound, IsFault, AreSound, IsFirstFault}
 use Rattle.edit_script.specs.Errors.{from_type}

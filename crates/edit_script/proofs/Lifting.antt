@@ -1,5 +1,5 @@
 -- What refuses the symbols behind edits refuses all of them.
-use Rattle.std.proofs.Common.{◌≡◌, ℕ, ◌-◌, ◌≤◌, false, List, [], ◌∷◌, ◌++◌, length, sym, ap, subst, ◌∙◌}
+use Rattle.std.proofs.Common.{ℕ, ◌-◌, false, List, [], ◌∷◌, ◌++◌, length, sym, ap, subst, ◌∙◌}
 use Rattle.p21_parse.specs.Symbol.{Symbol, opening}
 use Rattle.p21_parse.specs.Spell.{spell_all}
 use Rattle.p21_parse.specs.Nesting.{open_behind}

@@ -1,5 +1,5 @@
 -- A text holds one script at most, or is refused for one reason.
-use Rattle.std.proofs.Common.{◌≡◌, ℕ, suc, ◌+◌, ◌<◌, ◌≤◌, nat_eq, false, List, [], ◌∷◌, ◌++◌, length, map, Option, Some, None, Result, Ok, Err, refl, sym, ap, subst, ◌∙◌, append_assoc, append-nil, inl, inr, ◌⊎◌, ◌↔◌, arith}
+use Rattle.std.proofs.Common.{◌≡◌, ℕ, suc, nat_eq, false, List, [], ◌∷◌, ◌++◌, length, Result, Ok, Err, refl, sym, ap, subst, ◌∙◌, append_assoc, append-nil, inl, inr, ◌↔◌, arith}
 use Rattle.std.specs.List.{AllByRecursion, IsDistinct}
 use Rattle.p21_lex.specs.declared.error.LexErr.{LexErr}
 use Rattle.p21_lex.specs.declared.error.LexErr.TheVariants as lexes
@@ -15,13 +15,12 @@ use Rattle.p21_parse.specs.Places.{place_of}
 use Rattle.p21_parse.proofs.Named.{symbols_real, shallow_front}
 use Rattle.p21_parse.proofs.Fronts.{shallow_open, Longest, one_longest}
 use Rattle.p21_parse.proofs.Unique.{same_all}
-use Rattle.entity_read.specs.declared.error.TypeErr.{TypeErr}
 use Rattle.edit_script.specs.declared.error.ScriptErr.{ScriptErr}
 use Rattle.edit_script.specs.declared.error.ScriptErr.TheVariants.{Lex, Syntax, TooDeep, TooMany, AtOrder, Repeated, Attribute, NoMemory}
-use Rattle.edit_script.specs.Script.{EditTree, edit_word, moment_of, spell_edit, IsEdit, IsScript, IsFewScript, AreAllowed}
+use Rattle.edit_script.specs.Script.{EditTree, edit_word, moment_of, spell_edit, IsScript, IsFewScript, AreAllowed}
 use Rattle.edit_script.specs.Refused.{IsCounted, Cause, syntax, too_deep, too_many}
 use Rattle.edit_script.specs.Refused as refused
-use Rattle.edit_script.specs.Edits.{EditModel, numbers_of, IsRepeat, entities_of, IsSound, IsFault, AreSound, IsFirstFault}
+use Rattle.edit_script.specs.Edits.{EditModel, numbers_of, IsRepeat, IsSound, IsFault, AreSound, IsFirstFault}
 use Rattle.edit_script.specs.Reads.{IsText, HasRefusal, Holds, HasFault, Refuses}
 use Rattle.edit_script.proofs.Calm.{shallow_edits}
 use Rattle.edit_script.proofs.Spelled.{same_edit}

@@ -1,10 +1,10 @@
 -- Edits are given by their symbols, and what follows them may be longer.
-use Rattle.std.proofs.Common.{◌≡◌, ℕ, ◌+◌, ◌-◌, ◌≤◌, List, [], ◌∷◌, ◌++◌, length, refl, sym, ap, subst, ◌∙◌, length-append, arith}
+use Rattle.std.proofs.Common.{◌≡◌, ℕ, ◌-◌, List, [], ◌∷◌, ◌++◌, length, refl, sym, ap, subst, ◌∙◌, length-append, arith}
 use Rattle.std.specs.List.{AllByRecursion}
 use Rattle.p21_lex.specs.declared.token.TokenKind.TheVariants.{Int}
 use Rattle.p21_parse.specs.Symbol.{Symbol, value, semicolon}
 use Rattle.p21_parse.specs.Spell.{spell_all, spell_instance}
-use Rattle.p21_parse.specs.Begins.{IsSymbol, Begins}
+use Rattle.p21_parse.specs.Begins.{Begins}
 use Rattle.p21_parse.proofs.Appends.{longer_instances}
 use Rattle.p21_parse.proofs.Unique.{same_instances}
 use Rattle.edit_script.specs.Script.{EditTree, edit_word, at_word, end_word, spell_edit, IsEdit, IsScript, HasFew, AreFew, IsFewScript}

@@ -1,29 +1,27 @@
 -- Where the symbols of an edit are missing, and where an edit stands.
-use Rattle.std.proofs.Common.{◌≡◌, ℕ, ◌+◌, ◌-◌, ◌<◌, ◌≤◌, false, List, [], ◌∷◌, ◌++◌, length, map, drop, refl, sym, ap, subst, ◌∙◌, append_assoc, append-nil, length-append, inl, inr, ◌⊎◌, IsTrue, arith}
+use Rattle.std.proofs.Common.{◌≡◌, ℕ, ◌+◌, ◌-◌, ◌<◌, ◌≤◌, false, List, [], ◌∷◌, ◌++◌, length, map, drop, refl, sym, ap, subst, ◌∙◌, append_assoc, append-nil, length-append, inl, inr, IsTrue, arith}
 use Rattle.std.specs.List.{AllByRecursion}
 use Rattle.std.proofs.lemmas.List.{length-map, length-drop}
 use Rattle.p21_lex.specs.declared.token.TokenKind.TheVariants.{Int}
 use Rattle.p21_parse.specs.Tree.{InstanceTree}
 use Rattle.p21_parse.specs.Symbol.{Symbol, value, name, semicolon, symbol_of}
 use Rattle.p21_parse.specs.Spell.{spell_all, spell_instance}
-use Rattle.p21_parse.specs.Grammar.{IsInstance, AreInstances}
-use Rattle.p21_parse.specs.Nesting.{greatest, instance_nesting, IsShallow}
-use Rattle.p21_parse.specs.Begins.{IsSymbol, Begins}
+use Rattle.p21_parse.specs.Nesting.{IsShallow}
+use Rattle.p21_parse.specs.Begins.{Begins}
 use Rattle.p21_parse.specs.Parser.{IsNotHead}
 use Rattle.p21_parse.specs.Places.{start_of, place_of}
 use Rattle.p21_parse.specs.Refused.{list_numbers}
-use Rattle.p21_parse.specs.Allowed.{own_number_of, IsNoName, AreAllowed}
+use Rattle.p21_parse.specs.Allowed.{own_number_of, IsNoName}
 use Rattle.p21_parse.specs.Following.{AreInstancesFrom}
 use Rattle.p21_parse.proofs.Owned.{instances_numbers}
 use Rattle.p21_parse.proofs.Appends.{longer_instances}
 use Rattle.p21_parse.proofs.Unique.{same_instances}
 use Rattle.edit_script.specs.declared.source.Source.{Source}
-use Rattle.edit_script.specs.declared.source.Written.{Written}
 use Rattle.edit_script.specs.Script.{EditTree, edit_word, at_word, end_word, is_moment, spell_edit, IsEdit, IsScript, AreFew, IsFewScript}
 use Rattle.edit_script.specs.Refused.{syntax, too_many, Refuses}
-use Rattle.edit_script.specs.Source.{from, Has, IsMomentAt, IsNoMoment, IsHead, HeadStops, IsTail, TailStops, IsEditRead, IsWritten, Tells}
+use Rattle.edit_script.specs.Source.{from, Has, IsMomentAt, IsNoMoment, IsHead, HeadStops, IsTail, TailStops, IsEditRead, Tells}
 use Rattle.edit_script.proofs.Calm.{shallow_instances}
-use Rattle.edit_script.proofs.Headed.{headed, opened, few_headed, ended, edit_real, at_real, semicolon_real, zero_real, ended_real}
+use Rattle.edit_script.proofs.Headed.{headed, opened, few_headed, ended, at_real, semicolon_real, zero_real, ended_real}
 
 -- ---- where no script goes on
 

@@ -1,5 +1,5 @@
 -- What is kept of the edits that were read.
-use Rattle.std.specs.Prelude.{◌≡◌, ℕ, ◌+◌, ◌<◌, nat_eq, List, [], ◌∷◌, length, map, take, slice_index, Option, Some, None, Result, Ok, Err}
+use Rattle.std.specs.Prelude.{◌≡◌, ℕ, ◌+◌, ◌<◌, nat_eq, List, [], ◌∷◌, length, map, take, Option, Some, None, Result, Ok, Err}
 use Rattle.std.specs.List.{IsDistinct}
 use Rattle.p21_parse.specs.Tree.{InstanceTree}
 use Rattle.entity_types.specs.declared.edit.Edit.{Edit}
@@ -7,7 +7,7 @@ use Rattle.entity_types.specs.declared.entity.Entity.{Entity}
 use Rattle.entity_read.specs.declared.error.TypeErr.TheVariants.{BadAttribute}
 use Rattle.entity_read.specs.Typed.{entity_of}
 use Rattle.edit_script.specs.declared.error.ScriptErr.{ScriptErr}
-use Rattle.edit_script.specs.declared.error.ScriptErr.TheVariants.{Lex, Syntax, TooDeep, TooMany, AtOrder, Repeated, Attribute, NoMemory}
+use Rattle.edit_script.specs.declared.error.ScriptErr.TheVariants.{Attribute, NoMemory}
 use Rattle.edit_script.specs.declared.gathered.Gathered.{Gathered}
 use Rattle.edit_script.specs.Script.{EditTree, moment_of}
 use Rattle.edit_script.specs.Edits.{model_of, IsRepeat, entities_of, IsSound, IsFault, AreSound, IsFirstFault}

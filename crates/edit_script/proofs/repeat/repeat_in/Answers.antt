@@ -1,4 +1,4 @@
-use Rattle.std.proofs.Common.{◌≡◌, ◌<◌, ◌+◌, ℕ, nat_eq, List, [], ◌∷◌, length, take, sym, subst, arith}
+use Rattle.std.proofs.Common.{◌<◌, ℕ, nat_eq, List, [], ◌∷◌, length, subst, arith}
 use Rattle.std.specs.List.{IsDistinct}
 use Rattle.std.proofs.lemmas.List.{take_all}
 use Rattle.edit_script.proofs.repeat.repeat_in.Goals as goal
