@@ -1,0 +1,10 @@
+pub mod Moments
+pub mod Calm
+pub mod Spelled
+pub mod Lifting
+pub mod Headed
+pub mod Inner
+pub mod Stuck
+pub mod Judging
+pub mod OneScript
+pub mod Gathering
