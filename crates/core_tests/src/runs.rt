@@ -224,7 +224,16 @@ fn expect_up_to(
     let lines = lines_of(alloc, entries)?;
     let wanted = log_up_to(alloc, &lines, last, limit)?;
     let schedule = channels(alloc, digits)?;
-    expect_run(rt, alloc, data, edits, schedule.as_slice(), limit, &wanted, row)
+    expect_run(
+        rt,
+        alloc,
+        data,
+        edits,
+        schedule.as_slice(),
+        limit,
+        &wanted,
+        row,
+    )
 }
 
 /// Stops unless the run up to every limit, up to one above its length, gives what it should, and one with much room too.
