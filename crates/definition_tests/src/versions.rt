@@ -7,7 +7,8 @@ use crate::putting::can_be_put;
 use crate::store::store;
 use entity_types::{Edit, EntityList};
 use nc_base::Number;
-use project_versions::{StepSet, Versions, laws::few_are_new};
+use project_versions::laws::few_are_new;
+use project_versions::{StepSet, Versions};
 use std::alloc::Global;
 use std::process::Abort;
 use std::test::Fail;
@@ -57,10 +58,7 @@ const ROWS: [Row; 9] = [
     // A point, four references away.
     (&["#70=CARTESIAN_POINT('',(1.,2.,0.));"], &[10, 11]),
     // A step itself, and one item beside it that reaches others.
-    (
-        &["#12=MACHINING_WORKINGSTEP('',$,$,$);"],
-        &[12],
-    ),
+    (&["#12=MACHINING_WORKINGSTEP('',$,$,$);"], &[12]),
     // What refers to steps, and isn't one.
     (&["#2=WORKPLAN('',(#12,#10,#11),$);"], &[]),
     // New, so that nothing refers to it; and new, where an item comes to refer to it.

@@ -50,9 +50,10 @@ kept_only test (m ∷ ns) n h = go (test m) refl h (kept_only test ns n)
 
 -- what Versions finds is what the definition filters out
 pub same_reached : (store : List Entity) (steps : List ℕ) (items : List Entity) (ns : List ℕ) → AreReached store steps items ns → AreSame ns (reached store steps items)
-same_reached store steps items ns are =
-    (λ m i. let both = (are.members m).0 (contains_from ns m i) in kept_in (is_reached store items) steps m (has_from steps m both.0) both.1,
-     λ m i. let both = kept_only (is_reached store items) steps m i in has_from ns m ((are.members m).1 (contains_from steps m both.0, both.1)))
+same_reached store steps items ns are = (
+  λ m i. let both = (are.members m).0 (contains_from ns m i) in kept_in (is_reached store items) steps m (has_from steps m both.0) both.1,
+  λ m i. let both = kept_only (is_reached store items) steps m i in has_from ns m ((are.members m).1 (contains_from steps m both.0, both.1)),
+)
 
 -- a test that tells members is the test of them
 pub decides : (b : Bool) (ns : List ℕ) (n : ℕ) → (IsTrue b ↔ Contains ns n) → b ≡ has ns n

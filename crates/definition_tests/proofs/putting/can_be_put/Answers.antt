@@ -7,7 +7,7 @@ pub loop-i-preserved : goal.loop-i-preserved
 loop-i-preserved c =
     let yes : IsTrue c.in_ok-fits.field-0 = search rules in
     let fit : FitsIn c.args.store.now c.at.result.now =
-        record { constant = c.in_ok-fits.ensures.constant yes; nothing = c.in_ok-fits.ensures.nothing yes; old = c.in_ok-fits.ensures.old yes } in
+    record { constant = c.in_ok-fits.ensures.constant yes; nothing = c.in_ok-fits.ensures.nothing yes; old = c.in_ok-fits.ensures.old yes } in
     one_more c.args.store.now c.args.items.now c.loop-i.i c.at.result.now c.at.ensures fit c.loop-i.invariant
 
 pub returns : goal.returns
