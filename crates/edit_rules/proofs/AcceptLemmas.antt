@@ -1,7 +1,7 @@
 -- What an edit that is accepted does to a store.
-use Rattle.std.specs.Prelude.{◌≡◌, ℕ, zero, suc, ◌+◌, ◌<◌, Bool, true, false, ◌&&◌, ◌||◌, ◌==◌, not, is_none, is_ok, IsTrue, Contains, if◌then◌else◌, List, [], ◌∷◌, length, Option, Some, None, option_map, Result, Ok, Err, ◌⊎◌}
-use Rattle.std.specs.Option.{option_or, option_map_or}
-use Rattle.std.specs.List.{list_all, filter}
+use Rattle.std.specs.Prelude.{◌≡◌, ℕ, zero, suc, ◌<◌, Bool, true, false, ◌&&◌, ◌||◌, ◌==◌, is_ok, IsTrue, Contains, if◌then◌else◌, List, [], ◌∷◌, length, Option, Some, None, option_map, Result, Ok, Err, ◌⊎◌}
+use Rattle.std.specs.Option.{option_map_or}
+use Rattle.std.specs.List.{list_all}
 use Rattle.std.proofs.Common.{refl, sym, ap, subst, ◌∙◌, arith, get_or, inl, inr}
 use Rattle.std.proofs.lemmas.Bool.Decides.{nat_tests}
 use Rattle.nc_base.specs.declared.verdict.Verdict.{Verdict}
@@ -30,7 +30,7 @@ use Rattle.step_def.specs.FaultCode.{fault_code}
 use Rattle.step_def.specs.DefOf.{def_of}
 use Rattle.exec_tree.specs.Exec.{has}
 use Rattle.project_versions.specs.Reach.{after, is_reached}
-use Rattle.edit_rules.specs.Judge.{first_given, is_of_program, is_replaceable, class_fault_by, class_fault, is_of_target, wrong_among, kind_fault, code_in, step_fault, j1, j3, judge}
+use Rattle.edit_rules.specs.Judge.{first_given, is_of_program, is_replaceable, class_fault_by, class_fault, is_of_target, wrong_among, kind_fault, code_in, j1, judge}
 use Rattle.edit_rules.specs.Faults.{has_def}
 use Rattle.edit_rules.proofs.JudgeLemmas.{no_way, or_none, none_applies, defined}
 

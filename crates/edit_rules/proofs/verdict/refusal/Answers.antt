@@ -1,4 +1,4 @@
-use Rattle.std.proofs.Common.{◌≡◌, ◌∙◌, ◌≤◌, ◌+◌, ap, sym, subst, arith, length, List, ℕ}
+use Rattle.std.proofs.Common.{◌∙◌, ap, sym, subst, arith, length, List, ℕ}
 use Rattle.std.specs.Prelude.{option_map}
 use Rattle.exec_tree.specs.Built.{steps_in}
 use Rattle.project_versions.specs.Versioned.{AreReached}
