@@ -8,6 +8,7 @@ import re
 from fractions import Fraction
 from pathlib import Path
 
+import edits
 import runs
 
 FORMATS = Path(__file__).resolve().parent.parent / "docs" / "FORMATS.md"
@@ -982,9 +983,37 @@ def channels_of(data):
 ENDINGS = {runs.DONE: (DONE, "done"), runs.BLOCKED: (BLOCKED, "blocked"), runs.RUN_LIMIT: (RUN_LIMIT, "limit")}
 
 
-def run(tree, steps, schedule, limit):
-    """Status and log of a run under a schedule of channels."""
-    entries, ending = runs.replay(tree.store, tree.root(), lambda number: path(steps[number]), schedule, limit)
+def script_of(data):
+    """The edits of a script; raises its refusal."""
+    def typed(i, number, instance):
+        try:
+            return entity_of(number, instance)
+        except Refused as refusal:
+            raise Refused("Attribute", i, *refusal.args[1:]) from None
+
+    if len(data) > MOST_BYTES:
+        raise Refused("TooLong")
+    return edits.script_of(Grammar(data), Refused, typed)
+
+
+def kind_of_fault(store, number):
+    """The kind of a definition's fault, 1 to 9, or None."""
+    try:
+        definition(store, number)
+    except Fault as fault:
+        return fault.kind
+    return None
+
+
+def revisions_of(tree, script):
+    return edits.Revisions(tree.store, tree.steps(), script, TARGETS, kind_of_fault)
+
+
+def run(tree, steps, script, schedule, limit):
+    """Status and log of a run under a script of edits and a schedule of channels."""
+    entries, ending = runs.replay(
+        tree.store, tree.root(), lambda store, number: path(definition(store, number)), schedule, limit, revisions_of(tree, script)
+    )
     status, word = ENDINGS[ending]
     return status, "".join(line + "\n" for line in ["STEPNC-LOG 1"] + entries + [f"end {word} {len(entries)}"])
 
@@ -1000,16 +1029,12 @@ def is_step_number(word):
     return bool(NUMBER_WORD.fullmatch(word)) and len(word) <= 10 and int(word) <= MOST_NUMBER
 
 
-def is_hyphen(word):
-    return word == "-"
-
-
 def is_file_name(word):
     return word != ""
 
 
 LINES = [
-    [lambda word: word == "replay", is_file_name, is_hyphen, is_file_name, is_limit],
+    [lambda word: word == "replay", is_file_name, is_file_name, is_file_name, is_limit],
     [lambda word: word == "path", is_file_name, is_step_number],
     [lambda word: word == "--help"],
     [lambda word: word == "--version"],
@@ -1036,15 +1061,17 @@ def text_in_formats(command):
 
 
 def replay(project, words, read):
-    """Status and log of a run; the schedule is read once the project is accepted."""
-    data = b"" if words[3] == "-" else read(words[3])
-    if data is None:
-        return READ_FAULT, b""
-    try:
-        schedule = channels_of(data)
-    except Refused as refusal:
-        return SCRIPT_REFUSED, refusal.line.encode()
-    status, text = run(*project, schedule, int(words[4]))
+    """Status and log of a run; the script is read once the project is accepted, and the schedule once the script is."""
+    found = []
+    for word, meaning in ((words[2], script_of), (words[3], channels_of)):
+        data = b"" if word == "-" else read(word)
+        if data is None:
+            return READ_FAULT, b""
+        try:
+            found.append(meaning(data))
+        except Refused as refusal:
+            return SCRIPT_REFUSED, refusal.line.encode()
+    status, text = run(*project, *found, int(words[4]))
     return status, text.encode()
 
 

@@ -285,7 +285,8 @@ class Step(Frame):
         if self.made is None:
             self.made, self.blocks = 0, self.run.path(number)
             self.run.busy.add(self.node.channel)
-            return f"D {number} 0"
+            self.run.sent.add(number)
+            return f"D {number} {self.run.revisions.versions[number]}"
         if self.made < len(self.blocks):
             self.made += 1
             return f"B {number} {self.made - 1} {self.blocks[self.made - 1]}"
@@ -320,17 +321,19 @@ KINDS = {WORKPLAN: Plan, PARALLEL: Parallel, NON_SEQUENTIAL: NonSequential, SELE
 
 
 class Run:
-    """A run of a tree; `path` gives the blocks of a workingstep."""
+    """A run of a tree; `path` gives the blocks of a workingstep in a store, and `revisions` takes the edits."""
 
-    def __init__(self, store, root, path, limit):
-        self.store, self.find_path, self.limit = store, path, limit
-        self.paths, self.worth, self.marks, self.busy, self.entries = {}, Worth(store, {}), set(), set(), []
+    def __init__(self, store, root, path, limit, revisions):
+        self.store, self.find_path, self.limit, self.revisions = store, path, limit, revisions
+        self.paths, self.worth, self.marks, self.busy, self.sent, self.entries = {}, Worth(store, {}), set(), set(), set(), []
         self.root = KINDS[WORKPLAN](self, root, None)
 
     def path(self, number):
-        if number not in self.paths:
-            self.paths[number] = self.find_path(number)
-        return self.paths[number]
+        """The blocks of a workingstep as the edits so far have left it."""
+        key = number, self.revisions.versions[number]
+        if key not in self.paths:
+            self.paths[key] = self.find_path(self.revisions.store, number)
+        return self.paths[key]
 
     def assign(self, variable, value):
         """Changes a variable. What was worked out stays right where nothing changes."""
@@ -345,9 +348,21 @@ class Run:
         """The first frame that can make an entry for a channel, or None."""
         return None if self.root.is_over else self.root.first(channel)
 
+    def is_stuck(self):
+        return not any(self.ready(channel) for channel in range(8))
+
+    def is_due(self):
+        at = self.revisions.next_at()
+        return at is not None and (at <= len(self.entries) or self.is_stuck())
+
     def turn(self, channel):
         """One turn of a channel; whether it made an entry."""
-        frame = self.ready(channel) if len(self.entries) < self.limit else None
+        if len(self.entries) == self.limit:
+            return False
+        if self.is_due():
+            self.entries.append(self.revisions.judge(self.sent))
+            return True
+        frame = self.ready(channel)
         if frame is None:
             return False
         self.entries.append(frame.act())
@@ -355,14 +370,16 @@ class Run:
 
     def ending(self):
         """How the run ends, where no turn of any channel makes an entry any more."""
+        if self.revisions.next_at() is not None:
+            return RUN_LIMIT
         if self.root.is_over:
             return DONE
-        return RUN_LIMIT if any(self.ready(channel) for channel in range(8)) else BLOCKED
+        return BLOCKED if self.is_stuck() else RUN_LIMIT
 
 
-def replay(store, root, path, schedule, limit):
+def replay(store, root, path, schedule, limit, revisions):
     """The lines of the entries under a schedule of channels, and the ending: the scheduled turns, and then rounds of all channels."""
-    run = Run(store, root, path, limit)
+    run = Run(store, root, path, limit, revisions)
     idle = set()  # the channels whose last turn made nothing, with nothing made since
     for channel in schedule:
         if channel not in idle:

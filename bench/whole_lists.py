@@ -87,12 +87,12 @@ def is_enabled(node, nodes, entries):
     return True
 
 
-def entry_of(node, store, path, entries):
-    """The entry that an enabled node makes."""
+def entry_of(node, store, path, version, entries):
+    """The entry that an enabled node makes; a workingstep has this version."""
     number, own = node.number, [entry for entry in entries if entry[1] == node.number]
     if node.code == STEP:
         if not is_open(number, entries):
-            return ("D", number, 0)
+            return ("D", number, version(number))
         made = len(own) - 1 - max(i for i, entry in enumerate(own) if entry[0] == "D")
         return ("B", number, (made, path(number)[made])) if made < len(path(number)) else ("E", number, None)
     if node.code in (NON_SEQUENTIAL, SELECTIVE):
@@ -121,29 +121,41 @@ def nodes_in(node, above=None):
 
 def line_of(entry):
     letter, number, said = entry
+    if letter == "X":
+        return said
     words = [letter, str(number)] + ([] if said is None else [str(each) for each in (said if isinstance(said, tuple) else (said,))])
     return " ".join(words)
 
 
-def replay(store, root, path, schedule, limit):
-    """The lines of the entries under a schedule, and the ending, as `runs.replay` gives them."""
+def replay(store, root, path, schedule, limit, revisions):
+    """The lines of the entries under a schedule, and the ending, as `runs.replay` gives them. A verdict has no node: its number is -1."""
     nodes, entries = nodes_in(root), []
+
+    def enabled():
+        return [node for node in next_of(root, entries) if is_enabled(node, nodes, entries)]
 
     def ready(channel):
         ahead = next_of(root, entries)
         return next((node for node in ahead if node.channel == channel and is_enabled(node, nodes, entries)), None)
 
     def ending():
-        if is_whole(root, entries):
-            return DONE
-        if all(node.code == WAIT and not is_enabled(node, nodes, entries) for node in next_of(root, entries)):
-            return BLOCKED
+        if revisions.next_at() is None:
+            if is_whole(root, entries):
+                return DONE
+            if all(node.code == WAIT and not is_enabled(node, nodes, entries) for node in next_of(root, entries)):
+                return BLOCKED
         return RUN_LIMIT if len(entries) == limit else None
 
     def turn(channel):
-        node = ready(channel) if ending() is None else None
+        if ending() is not None:
+            return
+        at = revisions.next_at()
+        if at is not None and (at <= len(entries) or not enabled()):
+            entries.append(("X", -1, revisions.judge({entry[1] for entry in entries if entry[0] == "D"})))
+            return
+        node = ready(channel)
         if node:
-            entries.append(entry_of(node, store, path, entries))
+            entries.append(entry_of(node, store, lambda number: path(revisions.store, number), revisions.versions.get, entries))
 
     for channel in schedule:
         turn(channel)

@@ -284,15 +284,18 @@ def in_whole_lists():
     """Runs of random projects, by the frames of `runs` and in whole lists."""
     for number in range(CROSS_CHECKED):
         r = random.Random(f"whole lists {number}")
-        data, _, is_nested = projects.random_file(r)
+        data, project = projects.random_file(r)
         try:
             tree, steps = oracle.accepted(data)
         except oracle.Refused:
             continue
-        if not is_nested or len(tree.numbers) > 60:
+        if not project.is_nested or len(tree.numbers) > 60:
             continue
         schedule, limit = [r.randrange(4) for _ in range(r.choice([0, 10, 60]))], r.choice([1, 20, 100])
-        given, wanted = (way(tree.store, tree.root(), lambda step: oracle.path(steps[step])[:4], schedule, limit) for way in (runs.replay, whole_lists.replay))
+        given, wanted = (
+            way(tree.store, tree.root(), lambda store, step: oracle.path(oracle.definition(store, step))[:4], schedule, limit, oracle.revisions_of(tree, []))
+            for way in (runs.replay, whole_lists.replay)
+        )
         yield f"random project {number} in whole lists", given, wanted
 
 

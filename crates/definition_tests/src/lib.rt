@@ -6,6 +6,10 @@ mod definitions;
 #[cfg(test)]
 mod entities;
 #[cfg(test)]
+mod putting;
+#[cfg(test)]
 mod reading;
 #[cfg(test)]
 mod store;
+#[cfg(test)]
+mod verdicts;

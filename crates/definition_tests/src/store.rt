@@ -27,7 +27,8 @@ fn built(rt: &impl Abort, alloc: Global, text: &str) -> Result<Result<Store, Sto
     Ok(Store::build(alloc, all))
 }
 
-fn store(rt: &impl Abort, alloc: Global, text: &str) -> Result<Store, Fail> {
+/// The store of a text of instances.
+pub fn store(rt: &impl Abort, alloc: Global, text: &str) -> Result<Store, Fail> {
     Ok(built(rt, alloc, text)??)
 }
 
@@ -112,7 +113,7 @@ fn expect_overlay(
     store: &Store,
     items: &EntityList,
 ) -> Result<(), Fail> {
-    let overlay = Overlay::new(store, items);
+    let overlay = Overlay::new(alloc, store, items)?;
     let reached = closure(alloc, &overlay, 3)?;
     assert_eq!(rt; reached.as_slice(), [1, 2, 3, 9].as_slice());
     Ok(())

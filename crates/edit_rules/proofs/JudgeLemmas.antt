@@ -12,7 +12,7 @@ use Rattle.exec_tree.specs.Exec.{has}
 use Rattle.project_versions.specs.Reach.{after, is_reached}
 use Rattle.edit_rules.specs.Judge.{first_given, class_fault, class_fault_by, missing_fault, missing_reference, kind_fault, least_step, sent_fault, step_fault, reached, touched, refused_step, j1, j2, j3, j4, j5, first_refusal, judge}
 
-no_way : false ≡ true → ⊥
+pub no_way : false ≡ true → ⊥
 no_way e = cc
 
 -- ---- what a rule gives refuses
@@ -53,7 +53,7 @@ accepts_none None h e = refl
 accepts_none (Some Accepted) h e = absurd h
 accepts_none (Some (Refused rule a b)) h e = absurd (let f : Refused rule a b ≡ Accepted = e in cc)
 
-or_none : (a b : Option Verdict) → option_or a b ≡ None → (a ≡ None) × (b ≡ None)
+pub or_none : (a b : Option Verdict) → option_or a b ≡ None → (a ≡ None) × (b ≡ None)
 or_none None b e = (refl, e)
 or_none (Some v) b e = absurd (let f : Some v ≡ None = e in cc)
 
@@ -133,7 +133,7 @@ none_has fault_of_one (m ∷ ns) n e h =
     go true q i f rec = let s : m ≡ n = grind (arith, nat_tests) in subst (λ (k : ℕ). fault_of_one k ≡ None) s (no_fault m (fault_of_one m) f)
     go false q i f rec = rec i
 
-kept_in : (test : ℕ → Bool) (ns : List ℕ) (n : ℕ) → has ns n ≡ true → test n ≡ true → has (filter test ns) n ≡ true
+pub kept_in : (test : ℕ → Bool) (ns : List ℕ) (n : ℕ) → has ns n ≡ true → test n ≡ true → has (filter test ns) n ≡ true
 kept_in test [] n h e = h
 kept_in test (m ∷ ns) n h e = go (m == n) (test m) refl refl h (λ i. kept_in test ns n i e)
   where

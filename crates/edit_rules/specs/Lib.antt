@@ -3,3 +3,4 @@ pub mod Errors
 pub mod Steps
 pub mod Project
 pub mod Judge
+pub mod Judging

@@ -7,3 +7,6 @@ pub mod PutLemmas
 pub mod Sound
 pub mod MissingLemmas
 pub mod Least
+pub mod PuttingLemmas
+pub mod StoreLemmas
+pub mod LastLemmas

@@ -12,7 +12,7 @@ use Rattle.std.proofs.lemmas.List.Sorted.{Contains-permutation, IsPermutation-sy
 use Rattle.entity_types.specs.declared.entity.Entity.{Entity}
 use Rattle.project_store.specs.declared.places.Place.{Place}
 use Rattle.project_store.specs.Entities.{numbers_of, entity_at}
-use Rattle.project_store.specs.Places.{place_at, places_from, AreOrdered, IsIndex}
+use Rattle.project_store.specs.Places.{place_at, places_from, AreOrdered, IsIndex, IsAt}
 
 -- ---- the places of entities
 
@@ -56,6 +56,9 @@ one_place es i e before whole lt is all =
 
 -- ---- what is found from the first entity on
 
+other : (n k : ℕ) → n ≡ k → nat_eq n k ≡ false → ⊥
+other n k e h = absurd (let t : nat_eq n k ≡ true = grind (arith, nat_tests) in let f : false ≡ true = sym h ∙ t in cc)
+
 itself : (n : ℕ) → (n == n) ≡ true
 itself n = grind (arith, nat_tests)
 
@@ -65,7 +68,7 @@ turned n k h = grind (arith, nat_tests)
 differs : (n k : ℕ) → (k ≡ n → ⊥) → (n == k) ≡ false
 differs n k h = grind (arith, nat_tests)
 
-other_number : (n : ℕ) (es : List Entity) (j : ℕ) (e : Entity) → AllByRecursion (λ m. nat_eq n m ≡ false) (numbers_of es) → slice_get es j ≡ Some e → nat_eq n e.number ≡ false
+pub other_number : (n : ℕ) (es : List Entity) (j : ℕ) (e : Entity) → AllByRecursion (λ m. nat_eq n m ≡ false) (numbers_of es) → slice_get es j ≡ Some e → nat_eq n e.number ≡ false
 other_number n [] j e all h = absurd cc
 other_number n (x ∷ xs) zero e all h = let same : x ≡ e = cc in subst (λ (y : Entity). nat_eq n y.number ≡ false) same all.0
 other_number n (x ∷ xs) (suc j) e all h = other_number n xs j e all.1 h
@@ -92,27 +95,42 @@ got [] i e l h = absurd (omega arith)
 got (x ∷ xs) zero e l h = ap (λ (y : Entity). Some y) (sym h)
 got (x ∷ xs) (suc i) e l h = got xs i e (omega arith) h
 
--- a place of the number leads to the entity of the number
-pub record LeadsTo (es : List Entity) (n i : ℕ) : Type 0 where
-  pub within : i < length es
-  pub found : (e : Entity) → slice_get es i ≡ Some e → entity_at es n ≡ Some e
-
-pub leads : (places : List Place) (es : List Entity) (n i : ℕ) → IsIndex places es → Contains places (place_at n i) → LeadsTo es n i
-leads places es n i index has =
-    let is = is_place es 0 (place_at n i) (Contains-permutation places (places_from 0 es) (place_at n i) (IsPermutation-sym (places_from 0 es) places index.all) has) in
+-- a place of the number is that of an entity of the number
+pub leads : (opening added : List Place) (es : List Entity) (n i : ℕ) → IsIndex opening added es → Contains (opening ++ added) (place_at n i) → IsAt es n i
+leads opening added es n i index has =
+    let is = is_place es 0 (place_at n i) (Contains-permutation (opening ++ added) (places_from 0 es) (place_at n i) (IsPermutation-sym (places_from 0 es) (opening ++ added) index.all) has) in
     let same : i ≡ is.behind = omega (arith, is.index) in
-    record {
-      within = omega (arith, same, is.within);
-      found = λ e there.
-          let at : slice_get es i ≡ Some is.entity = ap (slice_get es) same ∙ is.there in
-          let one : is.entity ≡ e = let both : Some is.entity ≡ Some e = sym at ∙ there in cc in
-          ap (entity_at es) is.number ∙ found_there es is.behind is.entity index.distinct is.there ∙ ap (λ (y : Entity). Some y) one;
-    }
+    (is.entity, ap (slice_get es) same ∙ is.there, sym is.number)
+
+-- an entity's place is among them
+pub has_its_place : (opening added : List Place) (es : List Entity) (j : ℕ) (e : Entity) → IsIndex opening added es → slice_get es j ≡ Some e → Contains (opening ++ added) (place_at e.number j)
+has_its_place opening added es j e index there =
+    let has : Contains (places_from 0 es) (place_at e.number j) = subst (λ (k : ℕ). Contains (places_from 0 es) (place_at e.number k)) (omega arith) (has_place es 0 j e there) in
+    Contains-permutation (places_from 0 es) (opening ++ added) (place_at e.number j) index.all has
+
+-- what stands somewhere is found by its number
+pub at_found : (es : List Entity) (n i : ℕ) → IsDistinct nat_eq (numbers_of es) → (at : IsAt es n i) → entity_at es n ≡ Some at.0
+at_found es n i distinct at = ap (entity_at es) (sym at.2) ∙ found_there es i at.0 distinct at.1
+
+-- of distinct numbers each stands at one place
+pub at_one_place : (es : List Entity) (n i j : ℕ) → IsDistinct nat_eq (numbers_of es) → IsAt es n i → IsAt es n j → i ≡ j
+unfolding IsDistinct
+at_one_place [] n i j d p q = absurd (let h : None ≡ Some p.0 = p.1 in cc)
+at_one_place (x ∷ xs) n zero zero d p q = refl
+at_one_place (x ∷ xs) n zero (suc j) d p q =
+    let same : x ≡ p.0 = let h : Some x ≡ Some p.0 = p.1 in cc in
+    let number : x.number ≡ n = ap (λ (y : Entity). y.number) same ∙ p.2 in
+    absurd (other x.number q.0.number (number ∙ sym q.2) (other_number x.number xs j q.0 d.0 q.1))
+at_one_place (x ∷ xs) n (suc i) zero d p q =
+    let same : x ≡ q.0 = let h : Some x ≡ Some q.0 = q.1 in cc in
+    let number : x.number ≡ n = ap (λ (y : Entity). y.number) same ∙ q.2 in
+    absurd (other x.number p.0.number (number ∙ sym p.2) (other_number x.number xs i p.0 d.0 p.1))
+at_one_place (x ∷ xs) n (suc i) (suc j) d p q = ap suc (at_one_place xs n i j d.1 p q)
 
 -- where no place is of the number, no entity is
-pub leads_nowhere : (places : List Place) (es : List Entity) (n : ℕ) → IsIndex places es → ((p : Place) → Contains places p → p.number ≡ n → ⊥) → entity_at es n ≡ None
-leads_nowhere places es n index never =
-    found_nowhere es n (λ j e there is. never (place_at e.number (0 + j)) (Contains-permutation (places_from 0 es) places (place_at e.number (0 + j)) index.all (has_place es 0 j e there)) is)
+pub leads_nowhere : (opening added : List Place) (es : List Entity) (n : ℕ) → IsIndex opening added es → ((p : Place) → Contains (opening ++ added) p → p.number ≡ n → ⊥) → entity_at es n ≡ None
+leads_nowhere opening added es n index never =
+    found_nowhere es n (λ j e there is. never (place_at e.number j) (has_its_place opening added es j e index there) is)
 
 -- ---- the search
 

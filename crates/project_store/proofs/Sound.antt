@@ -1,6 +1,6 @@
 -- What a list without a fault keeps.
 use Rattle.std.proofs.Common.{◌≡◌, ℕ, zero, suc, ◌+◌, ◌<◌, ◌==◌, ◌&&◌, Bool, true, false, cond, nat_lt, List, [], ◌∷◌, length, get_or, drop, refl, ap, sym, subst, ◌∙◌, arith, IsTrue}
-use Rattle.std.specs.Prelude.{Option, Some, None, option_map, find, slice_get}
+use Rattle.std.specs.Prelude.{Option, Some, None, option_map, find, is_none, slice_get, Contains}
 use Rattle.std.specs.Option.{option_map_or}
 use Rattle.std.specs.List.{list_all}
 use Rattle.std.proofs.lemmas.Bool.{false≢true}
@@ -12,11 +12,12 @@ use Rattle.entity_types.specs.declared.table.Target.{Target}
 use Rattle.entity_types.specs.declared.table.UsedPosition.{UsedPosition}
 use Rattle.entity_types.specs.Table.{used_of}
 use Rattle.entity_types.specs.Target.{accepts}
-use Rattle.entity_types.specs.Entity.{field_at, references_of}
+use Rattle.entity_types.specs.Entity.{field_at, references_of, uses_of}
 use Rattle.project_store.specs.declared.error.StoreErr.{StoreErr}
-use Rattle.project_store.specs.declared.error.StoreErr.TheVariants.{WrongKind}
+use Rattle.project_store.specs.declared.error.StoreErr.TheVariants.{WrongKind, Unresolved}
 use Rattle.project_store.specs.Entities.{entity_at}
-use Rattle.project_store.specs.Build.{is_project, count_fault, projects_of, first_of, missing_fault, kind_fault, fault_of, lesser, least_fault, is_of_target, wrong_among, wrong_position}
+use Rattle.project_store.specs.Build.{is_project, count_fault, projects_of, first_of, missing_fault, kind_fault, fault_of, lesser, least_fault, is_of_target, wrong_among, wrong_position, missing_among, missing_reference}
+use Rattle.project_store.specs.Inserts.{uses_at}
 use Rattle.project_store.specs.Resolved.{target_among, IsResolved}
 
 first_none : (a b : Option StoreErr) → first_of a b ≡ None → a ≡ None
@@ -140,3 +141,30 @@ project_found es i e one at h inv =
 pub project_not_yet : (es : List Entity) (i : ℕ) (e : Entity) → slice_get es i ≡ Some e → is_project e ≡ false
     → projects_of (drop i es) ≡ projects_of es → projects_of (drop (i + 1) es) ≡ projects_of es
 project_not_yet es i e at h inv = sym (at_place es i e at ∙ left_out (is_project e) e (projects_of (drop (i + 1) es)) h) ∙ inv
+
+-- ---- what is used is there
+
+present : (o : Option Entity) → is_none o ≡ false → o ≡ None → ⊥
+present None h e = absurd (false≢true (sym h))
+present (Some x) h e = absurd (cc)
+
+by_test : (b : Bool) (x : ℕ) (rest : Option ℕ) → cond b (Some x) rest ≡ None → (b ≡ false) × (rest ≡ None)
+by_test true x rest h = absurd (cc)
+by_test false x rest h = (refl, h)
+
+not_missing : (all : List Entity) (rs : List ℕ) (r k : ℕ) → missing_among all rs ≡ None → k < length rs → get_or rs k r ≡ r → entity_at all r ≡ None → ⊥
+not_missing all [] r k h l e none = absurd (omega arith)
+not_missing all (x ∷ rs) r zero h l e none =
+    present (entity_at all r) (subst (λ (y : ℕ). is_none (entity_at all y) ≡ false) e (by_test (is_none (entity_at all x)) x (missing_among all rs) h).0) none
+not_missing all (x ∷ rs) r (suc k) h l e none = not_missing all rs r k (by_test (is_none (entity_at all x)) x (missing_among all rs) h).1 (omega arith) e none
+
+-- in a list without a fault what an entity uses is there
+pub closed : (all : List Entity) → fault_of all ≡ None → (n r : ℕ) → Contains (uses_at (entity_at all) n) r → entity_at all r ≡ None → ⊥
+closed all h n r c none = go (entity_at all n) refl c
+  where
+    none_missing : least_fault (missing_reference all) all ≡ None
+    none_missing = mapped_none (λ x. Unresolved x.0 x.1) (least_fault (missing_reference all) all) (first_none (missing_fault all) (kind_fault all) (second_none (count_fault (projects_of all)) _ h))
+
+    go : (o : Option Entity) → entity_at all n ≡ o → Contains (option_map_or uses_of o []) r → ⊥
+    go None e u = absurd (omega (arith, u.1))
+    go (Some entity) e u = not_missing all (uses_of entity) r u.0 (no_fault (missing_reference all) (λ x. n == x.number) all entity none_missing e) u.1 u.2 none

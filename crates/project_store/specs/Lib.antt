@@ -7,3 +7,4 @@ pub mod Put
 pub mod Resolved
 pub mod Least
 pub mod Putting
+pub mod Lasts

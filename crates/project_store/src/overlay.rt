@@ -1,51 +1,64 @@
 //! A store with an edit's items put.
 
-ghost use Rattle.std.specs.Prelude.{◌≡◌, option_copied};
-ghost use Rattle.project_store.specs.Put.{last_of, put_all};
+ghost use Rattle.std.specs.Prelude.{◌≡◌, IfOk, length, take};
+ghost use Rattle.project_store.specs.Put.{put_all};
 ghost use Rattle.project_store.specs.Entities.{entity_at};
+ghost use Rattle.project_store.specs.Lasts.{AreLasts};
 
 use crate::entities::Entities;
 use crate::store::Store;
 use entity_types::{Entity, EntityList};
-use nc_base::Number;
+use nc_base::{NoMemory, Number};
+use std::alloc::Global;
+use std::collections::BTreeMap;
 
-/// A store with items put in their order, so that of two items with one number the later stands.
-#[derive(Clone, Copy)]
+/// A store with items put in their order, so that of two items with one number the later stands. Beside them stands where the last item
+/// of each number is, so that no choice of items makes a look longer than the logarithm of their count.
+#[derive(Drop)]
 pub struct Overlay<'a> {
     pub store: &'a Store,
     pub items: &'a EntityList,
+    lasts: BTreeMap<Number, u32>,
+    ghost lasts_of_items: { AreLasts items.now lasts },
 }
 
 impl<'a> Overlay<'a> {
     /// The store with these items put.
-    pub fn new(store: &'a Store, items: &'a EntityList) -> Overlay<'a>
-        ensures store { result.store.now ≡ store.now }
-        ensures items { result.items.now ≡ items.now }
+    pub fn new(
+        alloc: Global,
+        store: &'a Store,
+        items: &'a EntityList,
+    ) -> Result<Overlay<'a>, NoMemory>
+        ensures store { IfOk result (λ overlay. overlay.store.now ≡ store.now) }
+        ensures items { IfOk result (λ overlay. overlay.items.now ≡ items.now) }
     {
-        Overlay { store, items }
+        let lasts = lasts_of(alloc, items)?;
+        Ok(Overlay {
+            store,
+            items,
+            lasts,
+        })
     }
 }
 
-fn last_of(items: &[Entity], n: Number) -> Option<&Entity>
-    ensures { option_copied result ≡ last_of items.now n }
+/// The place of the last item of each number.
+fn lasts_of(alloc: Global, items: &EntityList) -> Result<BTreeMap<Number, u32>, NoMemory>
+    ensures { IfOk result (AreLasts items.now) }
 {
-    let mut end = items.len();
-    while end > 0 {
-        end -= 1;
-        let item = &items[end];
-        if n == item.number {
-            return Some(item);
-        }
+    let mut lasts = BTreeMap::new(alloc);
+    for i in 0..items.len() {
+        let number = items.at(i).number;
+        lasts.insert(number, i)?;
     }
-    None
+    Ok(lasts)
 }
 
 impl Entities for Overlay<'_> {
     ghost entities = { λ o. put_all (entity_at o.store.now) o.items.now };
 
     fn get(&self, n: Number) -> Option<&Entity> {
-        match last_of(self.items.as_slice(), n) {
-            Some(entity) => Some(entity),
+        match self.lasts.get(&n) {
+            Some(i) => Some(self.items.at(*i)),
             None => self.store.get(n),
         }
     }

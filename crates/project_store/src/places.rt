@@ -1,10 +1,10 @@
 //! Where the entity of a number stands in a list.
 
-ghost use Rattle.std.specs.Prelude.{◌≡◌, ◌≤◌, length, IsTrue, IfOk, IfSome, IfNone, Contains};
+ghost use Rattle.std.specs.Prelude.{◌≡◌, ◌+◌, ◌^◌, ◌<◌, ◌≤◌, ◌++◌, length, IsTrue, IfOk, IfSome, IfNone, Contains};
 ghost use Rattle.std.specs.List.{AllAdjacentBelow};
 ghost use Rattle.std.specs.List.Sorted.{IsPermutation};
 ghost use Rattle.project_store.specs.declared.places.Place.{Place};
-ghost use Rattle.project_store.specs.Places.{place_at, places_from, AreOrdered};
+ghost use Rattle.project_store.specs.Places.{place_at, places_from, number_places, AreOrdered};
 
 use entity_types::Entity;
 use nc_base::{NoMemory, Number};
@@ -80,4 +80,41 @@ pub(crate) fn index_of(places: &[Place], n: Number) -> Option<usize>
         Ok(i) => Some(places[i].index),
         Err(_) => None,
     }
+}
+
+/// The index of the entity of this number, by two lists of places, each in order of number.
+pub(crate) fn index_among(opening: &[Place], added: &[Place], n: Number) -> Option<usize>
+    requires opening { AreOrdered opening.now }
+    requires added { AreOrdered added.now }
+    ensures found { IfSome result (λ index. Contains (opening.now ++ added.now) (place_at n index)) }
+    ensures none { IfNone result ((place : Place) → Contains (opening.now ++ added.now) place → place.number ≡ n → ⊥) }
+{
+    match index_of(opening, n) {
+        Some(index) => Some(index),
+        None => index_of(added, n),
+    }
+}
+
+/// These places, and those of further numbers of which the first stands at index `first`, all in order of number.
+pub(crate) fn places_with(
+    alloc: Global,
+    places: &[Place],
+    first: usize,
+    numbers: &[Number],
+) -> Result<Vec<Place>, NoMemory>
+    requires { first + length numbers.now < 2 ^ 64 }
+    ensures ordered { IfOk result (λ all. AreOrdered all.items) }
+    ensures all { IfOk result (λ all. IsPermutation (places.now ++ number_places first numbers.now) all.items) }
+{
+    let mut all = Vec::with_capacity(alloc, places.len() + numbers.len())?;
+    all.extend_from_slice(places)?;
+    for (behind, number) in numbers.iter().enumerate() {
+        all.push(Place {
+            number: *number,
+            index: first + behind,
+        })?;
+    }
+    // The first run is in order already, so that this takes one pass over it.
+    all.sort_by_key(|place| place.number)?;
+    Ok(all)
 }

@@ -1,47 +1,17 @@
 //! What an entity uses, and what that uses in turn.
 
-ghost use Rattle.std.specs.Prelude.{◌≡◌, ℕ, [], ◌↔◌, IfOk, OnOk, Contains};
+ghost use Rattle.std.specs.Prelude.{◌≡◌, ℕ, ◌↔◌, IfOk, OnOk, Contains};
 ghost use Rattle.std.specs.List.Sorted.{IsStrictlyIncreasing};
 ghost use Rattle.entity_types.specs.Entity.{uses_of};
-ghost use Rattle.project_store.specs.Inserts.{insert_number, insert_all, AreMembers, uses_at};
+ghost use Rattle.project_store.specs.Inserts.{insert_all, AreMembers, uses_at};
 ghost use Rattle.project_store.specs.Reach.{Reaches, IsClosure};
 
 use crate::entities::Entities;
+use crate::gathered::Gathered;
 use entity_types::Entity;
 use nc_base::{NoMemory, Number, NumberList};
 use std::alloc::Global;
 use std::collections::BTreeSet;
-
-/// Numbers, each once: in the order in which they came, and as a tree, which says whether one is there. A tree takes no longer for
-/// any choice of numbers, as a hash with a seed that is known would.
-#[derive(Drop)]
-struct Gathered {
-    order: Vec<Number>,
-    members: BTreeSet<Number>,
-}
-
-impl Gathered {
-    fn new(alloc: Global) -> Gathered
-        ensures order { result.order.items ≡ [] }
-        ensures members { AreMembers result.order.items result.members }
-    {
-        Gathered {
-            order: Vec::new(alloc),
-            members: BTreeSet::new(alloc),
-        }
-    }
-
-    fn insert(&mut self, number: Number) -> Result<(), NoMemory>
-        requires { AreMembers self.old.order.items self.old.members }
-        ensures order { OnOk result (self.new.order.items ≡ insert_number self.old.order.items number) }
-        ensures members { OnOk result (AreMembers self.new.order.items self.new.members) }
-    {
-        if self.members.insert(number)? {
-            self.order.push(number)?;
-        }
-        Ok(())
-    }
-}
 
 fn insert_all(set: &mut Gathered, numbers: &[Number]) -> Result<(), NoMemory>
     requires { AreMembers set.old.order.items set.old.members }

@@ -1,9 +1,13 @@
 //! The store of a project.
 
-ghost use Rattle.std.specs.Prelude.{◌≡◌, ◌<◌, [], ◌∷◌, nat_eq, length, slice_get, Some, IfOk};
+ghost use Rattle.std.specs.Prelude.{◌≡◌, ◌↔◌, ◌<◌, ℕ, [], ◌∷◌, nat_eq, length, slice_get, Some, None, IfOk, OnOk, IfErr, OnErr, Contains};
 ghost use Rattle.std.specs.List.{IsDistinct};
 ghost use Rattle.project_store.specs.Entities.{numbers_of, entity_at};
 ghost use Rattle.project_store.specs.Build.{Builds, projects_of};
+ghost use Rattle.project_store.specs.Inserts.{uses_at};
+ghost use Rattle.project_store.specs.Places.{IsAt};
+ghost use Rattle.project_store.specs.Put.{put_items};
+ghost use Rattle.project_store.specs.Putting.{CanPut};
 ghost use Rattle.project_store.specs.Resolved.{IsResolved};
 ghost use Rattle.project_store.specs.Reach.{IsClosure};
 
@@ -12,7 +16,7 @@ use crate::entities::Entities;
 use crate::error::StoreErr;
 use crate::index::Index;
 use crate::reach::closure;
-use entity_types::Entity;
+use entity_types::{Entity, EntityList};
 use nc_base::{NoMemory, Number, NumberList};
 use std::alloc::Global;
 use std::marker::Model;
@@ -73,6 +77,20 @@ impl Store {
         let _ = &self.index;
     }
 
+    /// What an entity of the store uses is in it.
+    pub fn closed(&self)
+        ensures { (n r : ℕ) → Contains (uses_at (entity_at self.now) n) r → entity_at self.now r ≡ None → ⊥ }
+    {
+        let _ = &self.index;
+    }
+
+    /// The entities in file order.
+    pub fn as_slice(&self) -> &[Entity]
+        ensures { result.now ≡ self.now }
+    {
+        self.index.as_slice()
+    }
+
     /// How many entities there are. Their numbers are distinct.
     pub fn len(&self) -> usize
         ensures len { result ≡ length self.now }
@@ -87,6 +105,34 @@ impl Store {
         ensures { slice_get self.now i ≡ Some result.now }
     {
         self.index.at(i)
+    }
+
+    /// The index at which the entity of this number stands, counted from 0. None comes exactly where there is none.
+    pub fn place_of(&self, n: Number) -> Option<usize>
+        ensures found { (i : ℕ) → (result ≡ Some i) ↔ IsAt self.now n i }
+        ensures none { (result ≡ None) ↔ (entity_at self.now n ≡ None) }
+    {
+        self.index.place_of(n)
+    }
+
+    /// Keeps room for so many further entities, so that putting them moves none of those that are there.
+    pub fn reserve(&mut self, more: u32) -> Result<(), NoMemory>
+        ensures { self.new ≡ self.old }
+    {
+        self.index.reserve(more)
+    }
+
+    /// Puts items in their order: each takes the place of the entity of its number, or comes at the end.
+    ///
+    /// # Errors
+    /// Memory ran out: the store is as it was, and the items are given back.
+    pub fn put(&mut self, items: EntityList) -> Result<(), EntityList>
+        requires { CanPut self.old items }
+        ensures put { OnOk result (self.new ≡ put_items self.old items) }
+        ensures kept { OnErr result (self.new ≡ self.old) }
+        ensures given_back { IfErr result (λ list. list ≡ items) }
+    {
+        self.index.put(items)
     }
 
     /// The least set that holds `n` and what its members use, in order of number.

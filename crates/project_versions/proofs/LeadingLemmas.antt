@@ -172,7 +172,7 @@ into entities goal n m root j h = (j, h)
 into entities goal n _ (used m r entity p e c) j h =
     into entities goal n m p (suc j) (or_right (goal m) (list_any (leads entities goal j) (uses_at entities m)) (any_there (leads entities goal j) (uses_at entities m) r (uses_there entities m r entity e c) h))
 
-prepend : (entities : ℕ → Option Entity) (n r m : ℕ) (entity : Entity) → entities n ≡ Some entity → Contains (uses_of entity) r → Reaches entities r m → Reaches entities n m
+pub prepend : (entities : ℕ → Option Entity) (n r m : ℕ) (entity : Entity) → entities n ≡ Some entity → Contains (uses_of entity) r → Reaches entities r m → Reaches entities n m
 prepend entities n r _ entity e c root = used n r entity root e c
 prepend entities n r _ entity e c (used k m other p f d) = used k m other (prepend entities n r k entity e c p) f d
 

@@ -13,7 +13,7 @@ no_way : false ≡ true → ⊥
 no_way e = cc
 
 -- what isn't put stands as it stood
-not_put : (entities : ℕ → Option Entity) (items : List Entity) (m : ℕ) → is_put items m ≡ false → put_all entities items m ≡ entities m
+pub not_put : (entities : ℕ → Option Entity) (items : List Entity) (m : ℕ) → is_put items m ≡ false → put_all entities items m ≡ entities m
 not_put entities [] m h = refl
 not_put entities (x ∷ items) m h = go (m == x.number) refl (not_put (put entities x) items m)
   where

@@ -23,14 +23,14 @@ use Rattle.run_core.proofs.QuestionLemmas.{busy_is}
 no_way : false ≡ true → ⊥
 no_way e = cc
 
--- ---- an entry that fits is of a node, where no edit is due
+-- ---- an entry of a node that fits
 
 pub record IsOfNode (r : Rules) (t : List Entry) (x : Entry) : Type 0 where
   pub n : ℕ
   pub number : number_of x ≡ Some n
   pub fits : FitsNode r t x
 
-pub is_of_node : (r : Rules) (t : List Entry) (x : Entry) → is_due r t ≡ false → Fits r t x → IsOfNode r t x
+pub is_of_node : (r : Rules) (t : List Entry) (x : Entry) → is_plain x ≡ true → Fits r t x → IsOfNode r t x
 is_of_node r t (Dispatch n v) d f = record { n = n; number = refl; fits = f }
 is_of_node r t (Block n k b) d f = record { n = n; number = refl; fits = f }
 is_of_node r t (End n) d f = record { n = n; number = refl; fits = f }
@@ -40,11 +40,11 @@ is_of_node r t (Assign n x) d f = record { n = n; number = refl; fits = f }
 is_of_node r t (Set n) d f = record { n = n; number = refl; fits = f }
 is_of_node r t (Pass n) d f = record { n = n; number = refl; fits = f }
 is_of_node r t (Note n) d f = record { n = n; number = refl; fits = f }
-is_of_node r t (Edit i w) d f = absurd (no_way (sym d ∙ f.due))
+is_of_node r t (Edit i w) d f = absurd (no_way d)
 
 -- such an entry is no edit
-pub plain_more : (t : List Entry) (x : Entry) (n : ℕ) → number_of x ≡ Some n → plain t ≡ t → plain (t ++ x ∷ []) ≡ t ++ x ∷ []
-plain_more t x n e h = go t ∙ ap (λ (u : List Entry). u ++ x ∷ []) h
+pub plain_more : (t : List Entry) (x : Entry) (n : ℕ) → number_of x ≡ Some n → plain (t ++ x ∷ []) ≡ plain t ++ x ∷ []
+plain_more t x n e = go t
   where
     last : plain (x ∷ []) ≡ x ∷ []
     last = let p : is_plain x ≡ true = ap is_some e in rw p refl

@@ -1,9 +1,9 @@
 pub mod SlotLemmas
-pub mod DefinitionLemmas
 pub mod OpeningLemmas
 pub mod QuestionLemmas
 pub mod KindLemmas
 pub mod PickLemmas
+pub mod EditLemmas
 pub mod MadeLemmas
 pub mod FollowLemmas
 pub mod StateLemmas

@@ -1,37 +1,44 @@
 -- What is made of a node by what is kept is what the rules make of it.
-use Rattle.std.specs.Prelude.{◌≡◌, ◌==◌, ◌⊎◌, ℕ, ℤ, true, false, List, [], slice_get, Option, Some, None, IfSome, IsSomeAnd, Ok}
+use Rattle.std.specs.Prelude.{◌≡◌, ◌==◌, ◌⊎◌, ℕ, ℤ, true, false, List, [], map, slice_get, Option, Some, None, IfSome, IsSomeAnd, Result, Ok, Err, is_ok}
+use Rattle.std.specs.Result.{result_ok}
 use Rattle.std.proofs.Common.{refl, sym, ap, subst, ◌∙◌, inl, inr, arith}
 use Rattle.std.proofs.lemmas.Bool.Decides.{nat_tests}
 use Rattle.path_blocks.specs.declared.block.Block.{Block as PathBlock}
+use Rattle.path_blocks.specs.declared.def.Def.{Def}
 use Rattle.entity_types.specs.declared.entity.Entity.{Entity}
+use Rattle.entity_types.specs.declared.edit.Edit.{Edit as ScriptEdit}
 use Rattle.project_store.specs.Entities.{entity_at}
 use Rattle.step_def.specs.DefOf.{def_of}
 use Rattle.nc_expr.specs.Vars.{value_at}
-use Rattle.exec_tree.specs.Exec.{Exec}
+use Rattle.exec_tree.specs.Exec.{Exec, nodes, works, has}
 use Rattle.exec_tree.specs.declared.kind.Kind.{Kind}
 use Rattle.exec_tree.specs.declared.kind.Kind.TheVariants as kinds
 use Rattle.exec_tree.specs.Executable.{kind_at}
 use Rattle.exec_tree.specs.Said.{Said, said_for}
-use Rattle.exec_tree.specs.Built.{TreeValue, said_in}
+use Rattle.exec_tree.specs.TreeFault.{walk_of}
+use Rattle.exec_tree.specs.Built.{TreeValue, said_in, main_of}
 use Rattle.trace_law.specs.Below.{tree_in}
 use Rattle.trace_law.specs.State.{stage}
 use Rattle.trace_law.specs.Offer.{Offer, Cuts, Picks, offer, IsOpen}
+use Rattle.trace_law.specs.Offer as offers
 use Rattle.run_log.specs.declared.entry.Entry.{Entry}
 use Rattle.run_log.specs.declared.entry.Entry.TheVariants.{Dispatch, Pick, Test, Assign}
 use Rattle.run_law.specs.Rules.{Rules}
+use Rattle.run_law.specs.Fits.{plain}
 use Rattle.run_law.specs.Replay.{cut, least_left, made, made_by}
 use Rattle.run_frames.specs.declared.deed.Deed.{Deed}
 use Rattle.run_frames.specs.declared.deed.Deed.TheVariants as deeds
 use Rattle.run_frames.specs.Deeds.{deed_offer, upto}
 use Rattle.project_law.specs.Variables.{vars_after}
-use Rattle.project_law.specs.ProjectRules.{rules_of, answer_by, value_by}
+use Rattle.project_law.specs.ProjectRules.{rules_of, store_tree, store_steps, answer_by, value_by}
 use Rattle.run_core.specs.declared.open_steps.OpenStep.{OpenStep}
-use Rattle.run_core.specs.declared.definitions.Definitions.{Definitions}
-use Rattle.run_core.specs.Definitions.{def_at}
+use Rattle.edit_rules.specs.Faults.{has_def}
+use Rattle.step_def.specs.declared.fault.DefFault.{DefFault}
 use Rattle.run_core.specs.State.{slot_at, is_step_of, path_in, value_said, answer_said, entry_by, plan_by}
 use Rattle.run_core.specs.Kept.{IsOpenStep, AreOpen}
 use Rattle.run_core.specs.Kinds.{IsDoneBy}
 use Rattle.run_core.proofs.QuestionLemmas.{Told}
+use Rattle.run_core.proofs.KindLemmas.{store_done_by, works_has}
 use Rattle.run_core.proofs.PickLemmas.{least_upto}
 
 no_way : false ≡ true → ⊥
@@ -62,42 +69,62 @@ pub answer_is : (entities : ℕ → Option Entity) (vars : ℕ → ℤ) (n : ℕ
     → answer_said vars said ≡ answer_said vars (Some (said_for entities own (entities n)))
 answer_is entities vars n said e own k = ap (answer_said vars) e ∙ ap (λ (other : Kind). answer_said vars (Some (said_for entities other (entities n)))) k
 
+-- ---- a step that starts
+
+-- a node that starts is a workingstep of the project
+pub starter_is : (project : List Entity) (u : List Entry) (n : ℕ) (deed : Deed) → nodes (store_tree project) ≡ map (λ v. v.number) (walk_of (entity_at project) (main_of project)) → works (store_tree project) ≡ store_steps project
+    → has (nodes (store_tree project)) n ≡ true → deed_offer deed ≡ offer (store_tree project) u n → deed ≡ deeds.Starts → has (store_steps project) n ≡ true
+starter_is project u n deed walked worked here does f =
+    let done = subst (λ (o : Offer). IsDoneBy o (kind_at (entity_at project n))) (sym does ∙ ap deed_offer f) (store_done_by (entity_at project) (main_of project) u n here) in
+    subst (λ (ns : List ℕ). has ns n ≡ true) worked (works_has (entity_at project) (main_of project) n walked worked here done)
+
+-- what is offered as a start is done as one
+pub started_by : (deed : Deed) → deed_offer deed ≡ offers.Starts → deed ≡ deeds.Starts
+started_by deeds.Starts e = refl
+started_by (deeds.Cuts k) e = absurd (cc)
+started_by deeds.Assigns e = absurd (cc)
+started_by deeds.Sets e = absurd (cc)
+started_by deeds.Passes e = absurd (cc)
+started_by deeds.Notes e = absurd (cc)
+started_by (deeds.Picks count picked) e = absurd (cc)
+started_by deeds.Tests e = absurd (cc)
+
 -- ---- the entry of a node
 
 -- what is known of node n where it is asked for its entry
-pub record Asked (project : List Entity) (t : List Entry) (tree : TreeValue) (vars : List (ℕ × ℤ)) (slots : List (Option OpenStep)) (n : ℕ) : Type 0 where
-  pub tells : Told (rules_of project []) t tree
-  pub kept : AreOpen (rules_of project []) t slots
-  pub vars_are : (v : ℕ) → value_at vars v ≡ vars_after [] project t v
-  pub version : (rules_of project []).version t n ≡ 0
+pub record Asked (project : List Entity) (script : List ScriptEdit) (t : List Entry) (tree : TreeValue) (vars : List (ℕ × ℤ)) (slots : List (Option OpenStep)) (version : ℕ) (n : ℕ) : Type 0 where
+  pub tells : Told (rules_of project script) t tree
+  pub kept : AreOpen (rules_of project script) t slots
+  pub vars_are : (v : ℕ) → value_at vars v ≡ vars_after script project t v
+  pub version_is : offer ((rules_of project script).tree t) (plain t) n ≡ offers.Starts → (rules_of project script).version t n ≡ version
   pub said : said_in tree n ≡ Some (said_for (entity_at project) (kind_at (entity_at project n)) (entity_at project n))
-  pub done_by : IsDoneBy (offer ((rules_of project []).tree t) t n) (kind_at (entity_at project n))
-  pub counted : (k : ℕ) → offer ((rules_of project []).tree t) t n ≡ Cuts k → stage n t ≡ Some k
-  pub free : IsOpen (offer ((rules_of project []).tree t) t n)
+  pub done_by : IsDoneBy (offer ((rules_of project script).tree t) (plain t) n) (kind_at (entity_at project n))
+  pub counted : (k : ℕ) → offer ((rules_of project script).tree t) (plain t) n ≡ Cuts k → stage n t ≡ Some k
+  pub free : IsOpen (offer ((rules_of project script).tree t) (plain t) n)
 
-pub entry_is : (project : List Entity) (t : List Entry) (tree : TreeValue) (vars : List (ℕ × ℤ)) (slots : List (Option OpenStep)) (n : ℕ) → Asked project t tree vars slots n
-    → (deed : Deed) → deed_offer deed ≡ offer ((rules_of project []).tree t) t n → entry_by tree slots (value_at vars) n deed ≡ made_by (rules_of project []) t n (deed_offer deed)
-entry_is project t tree vars slots n a deed e = go deed e
+pub entry_is : (project : List Entity) (script : List ScriptEdit) (t : List Entry) (tree : TreeValue) (vars : List (ℕ × ℤ)) (slots : List (Option OpenStep)) (version : ℕ) (n : ℕ) → Asked project script t tree vars slots version n
+    → (deed : Deed) → deed_offer deed ≡ offer ((rules_of project script).tree t) (plain t) n → entry_by tree slots (value_at vars) version n deed ≡ made_by (rules_of project script) t n (deed_offer deed)
+entry_is project script t tree vars slots version n a deed e = go deed e
   where
-    values : value_at vars ≡ (λ v. vars_after [] project t v)
+    values : value_at vars ≡ (λ v. vars_after script project t v)
     values = λ i v. a.vars_are v i
 
-    done : (d : Deed) → deed_offer d ≡ offer ((rules_of project []).tree t) t n → IsDoneBy (deed_offer d) (kind_at (entity_at project n))
+    done : (d : Deed) → deed_offer d ≡ offer ((rules_of project script).tree t) (plain t) n → IsDoneBy (deed_offer d) (kind_at (entity_at project n))
     done d f = subst (λ (o : Offer). IsDoneBy o (kind_at (entity_at project n))) (sym f) a.done_by
 
     tested : (kind_at (entity_at project n) ≡ kinds.If) ⊎ (kind_at (entity_at project n) ≡ kinds.While)
-        → answer_said (value_at vars) (said_in tree n) ≡ (rules_of project []).answer t n
+        → answer_said (value_at vars) (said_in tree n) ≡ (rules_of project script).answer t n
     tested (inl k) = answer_is (entity_at project) (value_at vars) n (said_in tree n) a.said kinds.If k ∙ ap (λ (f : ℕ → ℤ). answer_by project f n) values
     tested (inr k) = answer_is (entity_at project) (value_at vars) n (said_in tree n) a.said kinds.While k ∙ ap (λ (f : ℕ → ℤ). answer_by project f n) values
 
     least : (count picked : ℕ) → IsOpen (Picks count (upto picked)) → picked ≡ least_left count (upto picked)
     least count picked h = sym (least_upto count picked h.0 h.1 h.2)
 
-    go : (d : Deed) → deed_offer d ≡ offer ((rules_of project []).tree t) t n → entry_by tree slots (value_at vars) n d ≡ made_by (rules_of project []) t n (deed_offer d)
-    go deeds.Starts f = ap (Dispatch n) (sym a.version)
+    go : (d : Deed) → deed_offer d ≡ offer ((rules_of project script).tree t) (plain t) n → entry_by tree slots (value_at vars) version n d ≡ made_by (rules_of project script) t n (deed_offer d)
+    go deeds.Starts f = ap (Dispatch n) (sym (a.version_is (sym f)))
     go (deeds.Cuts k) f =
         ap (λ (c : ℕ). cut n k (slice_get (path_in (slot_at slots c)) k)) (a.tells.channels n)
-        ∙ ap (λ (blocks : List PathBlock). cut n k (slice_get blocks k)) (path_is (rules_of project []) t slots n k a.kept (a.counted k (sym f)))
+        ∙ ap (λ (blocks : List PathBlock). cut n k (slice_get blocks k)) (path_is (rules_of project script) t slots n k a.kept (a.counted k (sym f)))
     go deeds.Assigns f =
         ap (Assign n) (value_is (entity_at project) (value_at vars) n (said_in tree n) a.said (done deeds.Assigns f) ∙ ap (λ (g : ℕ → ℤ). value_by project g n) values)
     go deeds.Sets f = refl
@@ -107,28 +134,32 @@ entry_is project t tree vars slots n a deed e = go deed e
     go deeds.Tests f = ap (Test n) (tested (done deeds.Tests f))
 
 -- what is made of the node, by the rules
-pub made_is : (project : List Entity) (t : List Entry) (tree : TreeValue) (vars : List (ℕ × ℤ)) (slots : List (Option OpenStep)) (n : ℕ) → Asked project t tree vars slots n
-    → (deed : Deed) → deed_offer deed ≡ offer (tree_in tree) t n → entry_by tree slots (value_at vars) n deed ≡ made (rules_of project []) t n
-made_is project t tree vars slots n a deed e =
-    let f : deed_offer deed ≡ offer ((rules_of project []).tree t) t n = e ∙ ap (λ (x : Exec). offer x t n) a.tells.held in
-    entry_is project t tree vars slots n a deed f
-    ∙ (ap (made_by (rules_of project []) t n) f ∙ ap (λ (u : List Entry). made_by (rules_of project []) t n (offer ((rules_of project []).tree t) u n)) (sym a.tells.no_edits))
+pub made_is : (project : List Entity) (script : List ScriptEdit) (t : List Entry) (tree : TreeValue) (vars : List (ℕ × ℤ)) (slots : List (Option OpenStep)) (version : ℕ) (n : ℕ) → Asked project script t tree vars slots version n
+    → (deed : Deed) → deed_offer deed ≡ offer (tree_in tree) (plain t) n → entry_by tree slots (value_at vars) version n deed ≡ made (rules_of project script) t n
+made_is project script t tree vars slots version n a deed e =
+    let f : deed_offer deed ≡ offer ((rules_of project script).tree t) (plain t) n = e ∙ ap (λ (x : Exec). offer x (plain t) n) a.tells.held in
+    entry_is project script t tree vars slots version n a deed f
+    ∙ ap (made_by (rules_of project script) t n) f
 
 -- ---- plans and picks
 
 -- only a step that starts makes a dispatch, and its plan is its definition's
-pub planned_is : (project : List Entity) (tree : TreeValue) (definitions : Definitions) (slots : List (Option OpenStep)) (vars : ℕ → ℤ) (n : ℕ) (deed : Deed)
-    → (deed ≡ deeds.Starts → IsSomeAnd (def_at definitions n) (λ d. def_of (entity_at project) n ≡ Ok d))
-    → (m v : ℕ) → entry_by tree slots vars n deed ≡ Dispatch m v → IsSomeAnd (plan_by definitions n deed) (λ d. def_of (entity_at project) m ≡ Ok d)
-planned_is project tree definitions slots vars n deed h m v e = go deed h e
+pub planned_is : (store : List Entity) (tree : TreeValue) (slots : List (Option OpenStep)) (vars : ℕ → ℤ) (version n : ℕ) (deed : Deed)
+    → (deed ≡ deeds.Starts → has_def store n ≡ true)
+    → (m v : ℕ) → entry_by tree slots vars version n deed ≡ Dispatch m v → IsSomeAnd (plan_by store n deed) (λ d. def_of (entity_at store) m ≡ Ok d)
+planned_is store tree slots vars version n deed h m v e = go deed h e
   where
     cut_no : (k : ℕ) (o : Option PathBlock) → cut n k o ≡ Dispatch m v → ⊥
     cut_no k None f = cc
     cut_no k (Some b) f = cc
 
-    go : (d : Deed) → (d ≡ deeds.Starts → IsSomeAnd (def_at definitions n) (λ def. def_of (entity_at project) n ≡ Ok def)) → entry_by tree slots vars n d ≡ Dispatch m v
-        → IsSomeAnd (plan_by definitions n d) (λ def. def_of (entity_at project) m ≡ Ok def)
-    go deeds.Starts g f = let s : n ≡ m = cc in subst (λ (i : ℕ). IsSomeAnd (def_at definitions n) (λ def. def_of (entity_at project) i ≡ Ok def)) s (g refl)
+    own : (r : Result Def DefFault) → is_ok r ≡ true → IsSomeAnd (result_ok r) (λ def. r ≡ Ok def)
+    own (Ok def) f = refl
+    own (Err fault) f = absurd (no_way f)
+
+    go : (d : Deed) → (d ≡ deeds.Starts → has_def store n ≡ true) → entry_by tree slots vars version n d ≡ Dispatch m v
+        → IsSomeAnd (plan_by store n d) (λ def. def_of (entity_at store) m ≡ Ok def)
+    go deeds.Starts g f = let s : n ≡ m = cc in subst (λ (i : ℕ). IsSomeAnd (result_ok (def_of (entity_at store) n)) (λ def. def_of (entity_at store) i ≡ Ok def)) s (own (def_of (entity_at store) n) (g refl))
     go (deeds.Cuts k) g f = absurd (cut_no k _ f)
     go deeds.Assigns g f = absurd (cc)
     go deeds.Sets g f = absurd (cc)
@@ -138,15 +169,15 @@ planned_is project tree definitions slots vars n deed h m v e = go deed h e
     go deeds.Tests g f = absurd (cc)
 
 -- only a node that picks makes a pick, of the first index that isn't picked
-pub in_order_is : (tree : TreeValue) (t : List Entry) (slots : List (Option OpenStep)) (vars : ℕ → ℤ) (e : Exec) (n : ℕ) (deed : Deed) → deed_offer deed ≡ offer e t n
-    → (m k : ℕ) → entry_by tree slots vars n deed ≡ Pick m k → (count : ℕ) × (offer e t m ≡ Picks count (upto k))
-in_order_is tree t slots vars e n deed o m k f = go deed o f
+pub in_order_is : (tree : TreeValue) (t : List Entry) (slots : List (Option OpenStep)) (vars : ℕ → ℤ) (version : ℕ) (e : Exec) (n : ℕ) (deed : Deed) → deed_offer deed ≡ offer e t n
+    → (m k : ℕ) → entry_by tree slots vars version n deed ≡ Pick m k → (count : ℕ) × (offer e t m ≡ Picks count (upto k))
+in_order_is tree t slots vars version e n deed o m k f = go deed o f
   where
     cut_no : (j : ℕ) (b : Option PathBlock) → cut n j b ≡ Pick m k → ⊥
     cut_no j None g = cc
     cut_no j (Some b) g = cc
 
-    go : (d : Deed) → deed_offer d ≡ offer e t n → entry_by tree slots vars n d ≡ Pick m k → (count : ℕ) × (offer e t m ≡ Picks count (upto k))
+    go : (d : Deed) → deed_offer d ≡ offer e t n → entry_by tree slots vars version n d ≡ Pick m k → (count : ℕ) × (offer e t m ≡ Picks count (upto k))
     go deeds.Starts p g = absurd (cc)
     go (deeds.Cuts j) p g = absurd (cut_no j _ g)
     go deeds.Assigns p g = absurd (cc)

@@ -4,6 +4,7 @@ use Rattle.std.specs.List.{list_any, list_all, filter}
 use Rattle.std.proofs.Common.{refl, sym, ap, subst, ◌∙◌, arith, cond}
 use Rattle.std.proofs.lemmas.Bool.Decides.{nat_tests}
 use Rattle.entity_types.specs.declared.entity.Entity.{Entity}
+use Rattle.entity_types.specs.declared.edit.Edit.{Edit as ScriptEdit}
 use Rattle.project_store.specs.Entities.{entity_at}
 use Rattle.exec_tree.specs.Exec.{Exec, nodes, has, works}
 use Rattle.exec_tree.specs.declared.role.Role.{Role}
@@ -99,24 +100,22 @@ has_filter p (m ∷ ns) n h e = go (m == n) refl (p m) refl h (λ i. has_filter 
 
 pub record Told (r : Rules) (t : List Entry) (tree : TreeValue) : Type 0 where
   pub held : tree_in tree ≡ r.tree t
-  pub no_edits : plain t ≡ t
   pub channels : (n : ℕ) → channel_in tree.nodes n ≡ r.channel t n
   pub roles : (n : ℕ) → has (nodes (r.tree t)) n ≡ true → role_in tree n ≡ r.role t n
-  pub within : (n : ℕ) → has (next (r.tree t) t) n ≡ true → has (nodes (r.tree t)) n ≡ true
+  pub within : (n : ℕ) → has (next (r.tree t) (plain t)) n ≡ true → has (nodes (r.tree t)) n ≡ true
 
-pub told : (project : List Entity) (tree : TreeValue) (t : List Entry) → IsTreeOf (entity_at project) (main_of project) tree → plain t ≡ t
+pub told : (project : List Entity) (script : List ScriptEdit) (tree : TreeValue) (t : List Entry) → IsTreeOf (entity_at project) (main_of project) tree
     → ((n : ℕ) → channel_in tree.nodes n ≡ channel_of (entity_at project) (main_of project) n)
     → ((n : ℕ) → role_in tree n ≡ (if has (nodes (tree_of (entity_at project) (main_of project))) n then role_of (entity_at project) n else Free))
-    → next (tree_of (entity_at project) (main_of project)) t ≡ filter (has (next (tree_of (entity_at project) (main_of project)) t)) (nodes (tree_of (entity_at project) (main_of project)))
-    → Told (rules_of project []) t tree
-told project tree t is none channels roles order =
+    → next (tree_of (entity_at project) (main_of project)) (plain t) ≡ filter (has (next (tree_of (entity_at project) (main_of project)) (plain t))) (nodes (tree_of (entity_at project) (main_of project)))
+    → Told (rules_of project script) t tree
+told project script tree t is channels roles order =
     let e = tree_of (entity_at project) (main_of project) in
     record {
       held = is.held;
-      no_edits = none;
       channels = channels;
       roles = λ n h. roles n ∙ ap (λ (b : Bool). if b then role_of (entity_at project) n else Free) h;
-      within = λ n h. filter_has (has (next e t)) (nodes e) n (subst (λ (ns : List ℕ). has ns n ≡ true) order h);
+      within = λ n h. filter_has (has (next e (plain t))) (nodes e) n (subst (λ (ns : List ℕ). has ns n ≡ true) order h);
     }
 
 -- ---- open steps
@@ -180,25 +179,24 @@ waits_is r t tree flags told set n h = ap (waits_said tree.nodes flags) (told.ro
 
 pub ready_is : (r : Rules) (t : List Entry) (tree : TreeValue) (flags : List Bool) (slots : List (Option OpenStep)) (c : ℕ) → Told r t tree → AreOpen r t slots
     → ((m : ℕ) → mark_in tree.nodes flags m ≡ has (marks t) m)
-    → find (λ n. (channel_in tree.nodes n == c) && may_in tree flags slots n) (next (tree_in tree) t) ≡ ready r t c
+    → find (λ n. (channel_in tree.nodes n == c) && may_in tree flags slots n) (next (tree_in tree) (plain t)) ≡ ready r t c
 ready_is r t tree flags slots c told kept set =
-    ap (λ (e : Exec). find (λ n. (channel_in tree.nodes n == c) && may_in tree flags slots n) (next e t)) told.held
-    ∙ (find_same (λ n. (channel_in tree.nodes n == c) && may_in tree flags slots n) (λ n. (r.channel t n == c) && is_enabled r t n) (next (r.tree t) t)
+    ap (λ (e : Exec). find (λ n. (channel_in tree.nodes n == c) && may_in tree flags slots n) (next e (plain t))) told.held
+    ∙ (find_same (λ n. (channel_in tree.nodes n == c) && may_in tree flags slots n) (λ n. (r.channel t n == c) && is_enabled r t n) (next_of r t)
     (λ n h. ap (λ (k : ℕ). (k == c) && may_in tree flags slots n) (told.channels n)
-    ∙ ap (λ (b : Bool). (r.channel t n == c) && b) (may_is r t tree flags slots told kept set n (told.within n h)))
-    ∙ ap (λ (u : List Entry). find (λ n. (r.channel t n == c) && is_enabled r t n) (next (r.tree t) u)) (sym told.no_edits))
+    ∙ ap (λ (b : Bool). (r.channel t n == c) && b) (may_is r t tree flags slots told kept set n (told.within n h))))
 
 pub all_wait_is : (r : Rules) (t : List Entry) (tree : TreeValue) (flags : List Bool) → Told r t tree
     → ((m : ℕ) → mark_in tree.nodes flags m ≡ has (marks t) m)
-    → is_none (find (λ n. not (waits_in tree flags n)) (next (tree_in tree) t)) ≡ list_all (waits r t) (next_of r t)
+    → is_none (find (λ n. not (waits_in tree flags n)) (next (tree_in tree) (plain t))) ≡ list_all (waits r t) (next_of r t)
 all_wait_is r t tree flags told set =
-    ap (λ (e : Exec). is_none (find (λ n. not (waits_in tree flags n)) (next e t))) told.held
-    ∙ (ap is_none (find_same (λ n. not (waits_in tree flags n)) (λ n. not (waits r t n)) (next (r.tree t) t)
+    ap (λ (e : Exec). is_none (find (λ n. not (waits_in tree flags n)) (next e (plain t)))) told.held
+    ∙ (ap is_none (find_same (λ n. not (waits_in tree flags n)) (λ n. not (waits r t n)) (next_of r t)
     (λ n h. ap not (waits_is r t tree flags told set n (told.within n h))))
-    ∙ (none_all (waits r t) (next (r.tree t) t) ∙ ap (λ (u : List Entry). list_all (waits r t) (next (r.tree t) u)) (sym told.no_edits)))
+    ∙ none_all (waits r t) (next_of r t))
 
-pub over_is : (r : Rules) (t : List Entry) (e : Exec) → e ≡ r.tree t → plain t ≡ t → is_none (find (λ (n : ℕ). true) (next e t)) ≡ is_empty (next_of r t)
-over_is r t e h none = go (next e t) ∙ (ap (λ (x : Exec). is_empty (next x t)) h ∙ ap (λ (u : List Entry). is_empty (next (r.tree t) u)) (sym none))
+pub over_is : (r : Rules) (t : List Entry) (e : Exec) → e ≡ r.tree t → is_none (find (λ (n : ℕ). true) (next e (plain t))) ≡ is_empty (next_of r t)
+over_is r t e h = go (next e (plain t)) ∙ ap (λ (x : Exec). is_empty (next x (plain t))) h
   where
     go : (ns : List ℕ) → is_none (find (λ (n : ℕ). true) ns) ≡ is_empty ns
     go [] = refl

@@ -7,6 +7,7 @@ use Rattle.path_blocks.specs.declared.def.Def.{Def}
 use Rattle.path_blocks.specs.Path.{path_of}
 use Rattle.step_def.specs.DefOf.{def_of}
 use Rattle.entity_types.specs.declared.entity.Entity.{Entity}
+use Rattle.entity_types.specs.declared.edit.Edit.{Edit as ScriptEdit}
 use Rattle.project_store.specs.Entities.{entity_at}
 use Rattle.nc_expr.specs.Vars.{value_at, value_of_variable}
 use Rattle.exec_tree.specs.Exec.{Assigning, Setting, Waiting, Noting, nodes, has, works}
@@ -18,23 +19,24 @@ use Rattle.exec_tree.specs.Said.{Said, said_for, target_of}
 use Rattle.exec_tree.specs.Walked.{place_from}
 use Rattle.exec_tree.specs.Built.{TreeValue, channel_in, said_in}
 use Rattle.trace_law.specs.Of.{number_of, has_some}
-use Rattle.trace_law.specs.State.{dispatched, marked, stage, is_open}
+use Rattle.nc_base.specs.declared.verdict.Verdict.{Verdict}
+use Rattle.trace_law.specs.State.{dispatched, marked, marks, stage, is_open}
 use Rattle.trace_law.specs.Offer.{Offer, Starts, Cuts, Does, Picks, Tests, Nothing, offer, IsOffered}
 use Rattle.run_log.specs.declared.entry.Entry.{Entry}
 use Rattle.run_log.specs.declared.entry.Entry.TheVariants.{Dispatch, Block, End, Pick, Test, Assign, Set, Pass, Note, Edit}
 use Rattle.run_law.specs.Rules.{Rules}
-use Rattle.run_law.specs.Fits.{FitsNode, is_enabled, is_busy, may_go_on}
+use Rattle.run_law.specs.Fits.{FitsNode, plain, is_enabled, is_busy, may_go_on}
 use Rattle.exec_tree.specs.declared.role.Role.{Role}
 use Rattle.exec_tree.specs.declared.role.Role.TheVariants.{Cutting}
 use Rattle.exec_tree.specs.declared.limits.TheConstants.{MAX_CHANNELS}
 use Rattle.run_frames.specs.declared.frames.Frames.{Frames}
 use Rattle.run_frames.specs.Standing.{IsAt}
 use Rattle.project_law.specs.Variables.{vars_with, vars_after}
+use Rattle.project_law.specs.Script.{store_after}
 use Rattle.project_law.specs.Paths.{blocks_in}
 use Rattle.project_law.specs.ProjectRules.{rules_of}
 use Rattle.project_law.specs.Legal.{Legal}
 use Rattle.run_core.specs.declared.open_steps.OpenStep.{OpenStep}
-use Rattle.run_core.specs.declared.definitions.Definitions.{Definitions}
 use Rattle.run_core.specs.State.{flag_at, flag_after, mark_in, is_step_of, slot_at, slot_after, variable_in, variable_by, set_by, var_after}
 use Rattle.run_core.specs.Kinds.{IsDoneBy}
 use Rattle.run_core.specs.Kept.{IsState, IsPlanned, IsOpenStep, AreOpen}
@@ -105,27 +107,27 @@ variable_is : (project : List Entity) (tree : TreeValue) (n : ℕ) → said_in t
     → variable_in tree n ≡ Some (target_of (entity_at project n))
 variable_is project tree n e k = ap variable_by (e ∙ ap (λ (own : Kind). Some (said_for (entity_at project) own (entity_at project n))) k)
 
-vars_follow : (project : List Entity) (tree : TreeValue) (t : List Entry) (x : Entry) (n : ℕ) (old new : List (ℕ × ℤ)) (o : Offer) → number_of x ≡ Some n
+vars_follow : (project : List Entity) (script : List ScriptEdit) (tree : TreeValue) (t : List Entry) (x : Entry) (n : ℕ) (old new : List (ℕ × ℤ)) (o : Offer) → number_of x ≡ Some n
     → said_in tree n ≡ Some (said_for (entity_at project) (kind_at (entity_at project n)) (entity_at project n)) → IsOffered o n x → IsDoneBy o (kind_at (entity_at project n))
-    → ((v : ℕ) → value_at old v ≡ vars_after [] project t v) → ((m : ℕ) → value_of_variable new m ≡ var_after tree x (value_of_variable old m) m)
-    → (v : ℕ) → value_at new v ≡ vars_with project (vars_after [] project t) x v
-vars_follow project tree t (Assign m y) n old new o e said offered done vars moved v =
+    → ((v : ℕ) → value_at old v ≡ vars_after script project t v) → ((m : ℕ) → value_of_variable new m ≡ var_after tree x (value_of_variable old m) m)
+    → (v : ℕ) → value_at new v ≡ vars_with project (vars_after script project t) x v
+vars_follow project script tree t (Assign m y) n old new o e said offered done vars moved v =
     let f : n ≡ m = cc in
     let names = subst (λ (k : ℕ). variable_in tree k ≡ Some (target_of (entity_at project k))) f (variable_is project tree n said (assigned_kind o n m y (kind_at (entity_at project n)) offered done)) in
     ap (λ (z : Option ℤ). unwrap_or z (pos 0)) (moved v ∙ ap (λ (u : Option ℕ). set_by u y (value_of_variable old v) v) names) ∙ go (target_of (entity_at project m) == v)
   where
-    go : (b : Bool) → unwrap_or (if b then Some y else value_of_variable old v) (pos 0) ≡ (if b then y else vars_after [] project t v)
+    go : (b : Bool) → unwrap_or (if b then Some y else value_of_variable old v) (pos 0) ≡ (if b then y else vars_after script project t v)
     go true = refl
     go false = vars v
-vars_follow project tree t (Dispatch m w) n old new o e said offered done vars moved v = ap (λ (z : Option ℤ). unwrap_or z (pos 0)) (moved v) ∙ vars v
-vars_follow project tree t (Block m k b) n old new o e said offered done vars moved v = ap (λ (z : Option ℤ). unwrap_or z (pos 0)) (moved v) ∙ vars v
-vars_follow project tree t (End m) n old new o e said offered done vars moved v = ap (λ (z : Option ℤ). unwrap_or z (pos 0)) (moved v) ∙ vars v
-vars_follow project tree t (Pick m k) n old new o e said offered done vars moved v = ap (λ (z : Option ℤ). unwrap_or z (pos 0)) (moved v) ∙ vars v
-vars_follow project tree t (Test m b) n old new o e said offered done vars moved v = ap (λ (z : Option ℤ). unwrap_or z (pos 0)) (moved v) ∙ vars v
-vars_follow project tree t (Set m) n old new o e said offered done vars moved v = ap (λ (z : Option ℤ). unwrap_or z (pos 0)) (moved v) ∙ vars v
-vars_follow project tree t (Pass m) n old new o e said offered done vars moved v = ap (λ (z : Option ℤ). unwrap_or z (pos 0)) (moved v) ∙ vars v
-vars_follow project tree t (Note m) n old new o e said offered done vars moved v = ap (λ (z : Option ℤ). unwrap_or z (pos 0)) (moved v) ∙ vars v
-vars_follow project tree t (Edit i w) n old new o e said offered done vars moved v = ap (λ (z : Option ℤ). unwrap_or z (pos 0)) (moved v) ∙ vars v
+vars_follow project script tree t (Dispatch m w) n old new o e said offered done vars moved v = ap (λ (z : Option ℤ). unwrap_or z (pos 0)) (moved v) ∙ vars v
+vars_follow project script tree t (Block m k b) n old new o e said offered done vars moved v = ap (λ (z : Option ℤ). unwrap_or z (pos 0)) (moved v) ∙ vars v
+vars_follow project script tree t (End m) n old new o e said offered done vars moved v = ap (λ (z : Option ℤ). unwrap_or z (pos 0)) (moved v) ∙ vars v
+vars_follow project script tree t (Pick m k) n old new o e said offered done vars moved v = ap (λ (z : Option ℤ). unwrap_or z (pos 0)) (moved v) ∙ vars v
+vars_follow project script tree t (Test m b) n old new o e said offered done vars moved v = ap (λ (z : Option ℤ). unwrap_or z (pos 0)) (moved v) ∙ vars v
+vars_follow project script tree t (Set m) n old new o e said offered done vars moved v = ap (λ (z : Option ℤ). unwrap_or z (pos 0)) (moved v) ∙ vars v
+vars_follow project script tree t (Pass m) n old new o e said offered done vars moved v = ap (λ (z : Option ℤ). unwrap_or z (pos 0)) (moved v) ∙ vars v
+vars_follow project script tree t (Note m) n old new o e said offered done vars moved v = ap (λ (z : Option ℤ). unwrap_or z (pos 0)) (moved v) ∙ vars v
+vars_follow project script tree t (Edit i w) n old new o e said offered done vars moved v = ap (λ (z : Option ℤ). unwrap_or z (pos 0)) (moved v) ∙ vars v
 
 set_some : (u : Option ℕ) (y : ℤ) (o : Option ℤ) (v : ℕ) → IsSome o → IsSome (set_by u y o v)
 set_some None y o v h = h
@@ -149,78 +151,76 @@ var_some tree (Edit i w) o v h = h
 
 -- ---- the path of a dispatch is that of its plan
 
-pub sent_path : (project : List Entity) (plan : Option Def) (m : ℕ) (path : List PathBlock) → path ≡ blocks_in (entity_at project) m → IsSomeAnd plan (λ d. def_of (entity_at project) m ≡ Ok d) → IsSomeAnd plan (λ d. path ≡ path_of d)
-sent_path project None m path e h = h
-sent_path project (Some d) m path e h = e ∙ rw h refl
+pub sent_path : (store : List Entity) (plan : Option Def) (m : ℕ) (path : List PathBlock) → path ≡ blocks_in (entity_at store) m → IsSomeAnd plan (λ d. def_of (entity_at store) m ≡ Ok d) → IsSomeAnd plan (λ d. path ≡ path_of d)
+sent_path store None m path e h = h
+sent_path store (Some d) m path e h = e ∙ rw h refl
 
 -- ---- all of it
 
 -- what is known of an entry that fits
-pub record Entered (project : List Entity) (tree : TreeValue) (t : List Entry) (x : Entry) (n : ℕ) (plan : Option Def) : Type 0 where
+pub record Entered (project : List Entity) (script : List ScriptEdit) (tree : TreeValue) (t : List Entry) (x : Entry) (n : ℕ) (plan : Option Def) : Type 0 where
   pub number : number_of x ≡ Some n
-  pub legal : Legal project [] (t ++ x ∷ [])
+  pub legal : Legal project script (t ++ x ∷ [])
   pub said : said_in tree n ≡ Some (said_for (entity_at project) (kind_at (entity_at project n)) (entity_at project n))
-  pub offered : IsOffered (offer ((rules_of project []).tree t) t n) n x
-  pub done : IsDoneBy (offer ((rules_of project []).tree t) t n) (kind_at (entity_at project n))
+  pub offered : IsOffered (offer ((rules_of project script).tree t) (plain t) n) n x
+  pub done : IsDoneBy (offer ((rules_of project script).tree t) (plain t) n) (kind_at (entity_at project n))
   pub numbered : (m place : ℕ) → place_from 0 tree.nodes m ≡ Some place → (node : BareNode) × (slice_get tree.nodes place ≡ Some node) × (node.number ≡ Some m)
-  pub vars : (v : ℕ) → vars_after [] project (t ++ x ∷ []) v ≡ vars_with project (vars_after [] project t) x v
-  pub follows : Follows (rules_of project []) t x n plan
+  pub vars : (v : ℕ) → vars_after script project (t ++ x ∷ []) v ≡ vars_with project (vars_after script project t) x v
+  pub follows : Follows (rules_of project script) t x n plan
 
-pub state_follows : (project : List Entity) (tree : TreeValue) (definitions : Definitions) (frames frames' : Frames) (t : List Entry) (flags flags' : List Bool) (vars vars' : List (ℕ × ℤ)) (slots slots' : List (Option OpenStep))
-    (x : Entry) (n : ℕ) (plan : Option Def) (channel : ℕ) → IsState project tree definitions frames t flags vars slots → Entered project tree t x n plan
-    → IsAt tree.nodes frames' (t ++ x ∷ []) → length flags' ≡ length flags → ((q : ℕ) → flag_at flags' q ≡ flag_after tree.nodes (marked x) (flag_at flags q) q)
+pub state_follows : (project : List Entity) (script : List ScriptEdit) (tree : TreeValue) (frames frames' : Frames) (t : List Entry) (flags flags' : List Bool) (vars vars' : List (ℕ × ℤ)) (slots slots' : List (Option OpenStep))
+    (x : Entry) (n : ℕ) (plan : Option Def) (channel : ℕ) → IsState project script tree frames t flags vars slots → Entered project script tree t x n plan
+    → IsAt tree.nodes frames' (plain t ++ x ∷ []) → length flags' ≡ length flags → ((q : ℕ) → flag_at flags' q ≡ flag_after tree.nodes (marked x) (flag_at flags q) q)
     → ((m : ℕ) → value_of_variable vars' m ≡ var_after tree x (value_of_variable vars m) m)
-    → channel ≡ (rules_of project []).channel t n → ((c : ℕ) → slot_at slots' c ≡ (if c == channel then slot_after plan x (slot_at slots c) else slot_at slots c))
-    → IsState project tree definitions frames' (t ++ x ∷ []) flags' vars' slots'
-state_follows project tree definitions frames frames' t flags flags' vars vars' slots slots' x n plan channel k e at fit moved assigned is opened = record {
+    → channel ≡ (rules_of project script).channel t n → ((c : ℕ) → slot_at slots' c ≡ (if c == channel then slot_after plan x (slot_at slots c) else slot_at slots c))
+    → IsState project script tree frames' (t ++ x ∷ []) flags' vars' slots'
+state_follows project script tree frames frames' t flags flags' vars vars' slots slots' x n plan channel k e at fit moved assigned is opened = record {
   tree_is = k.tree_is;
-  defined = k.defined;
-  at = at;
+  at = subst (IsAt tree.nodes frames') (sym (plain_more t x n e.number)) at;
   legal = e.legal;
-  no_edits = plain_more t x n e.number k.no_edits;
   flags_fit = fit ∙ k.flags_fit;
   marks_are = marks_follow tree.nodes flags flags' t x e.numbered (mark_placed tree.nodes x n e.number (placed tree.nodes tree.said n _ e.said)) k.marks_are moved;
-  vars_are = λ v. vars_follow project tree t x n vars vars' (offer ((rules_of project []).tree t) t n) e.number e.said e.offered e.done k.vars_are assigned v ∙ sym (e.vars v);
+  vars_are = λ v. vars_follow project script tree t x n vars vars' (offer ((rules_of project script).tree t) (plain t) n) e.number e.said e.offered e.done k.vars_are assigned v ∙ sym (e.vars v);
   vars_there = λ m v f. subst IsSome (sym (assigned v)) (var_some tree x (value_of_variable vars v) v (k.vars_there m v f));
-  steps_are = steps_follow (rules_of project []) t x n plan slots slots' channel e.follows k.steps_are is opened;
+  steps_are = steps_follow (rules_of project script) t x n plan slots slots' channel e.follows k.steps_are is opened;
 }
 
 -- what is known with the rules after an entry that fits
-pub follows_is : (project : List Entity) (t : List Entry) (x : Entry) (n : ℕ) (plan : Option Def) → number_of x ≡ Some n → FitsNode (rules_of project []) t x
-    → IsOffered (offer ((rules_of project []).tree t) t n) n x → IsDoneBy (offer ((rules_of project []).tree t) t n) (kind_at (entity_at project n))
-    → (kind_at (entity_at project n) ≡ kinds.Work → has (works ((rules_of project []).tree t)) n ≡ true)
-    → (has (works ((rules_of project []).tree t)) n ≡ true → (rules_of project []).role t n ≡ Cutting)
-    → ((j : ℕ) → offer ((rules_of project []).tree t) t n ≡ Cuts j → stage n t ≡ Some j)
-    → ((m : ℕ) → has_some (m ∷ []) (dispatched x) ≡ false → (rules_of project []).path (t ++ x ∷ []) m ≡ (rules_of project []).path t m)
-    → ((m v : ℕ) → (rules_of project []).path (t ++ Dispatch m v ∷ []) m ≡ blocks_in (entity_at project) m)
-    → IsPlanned project x plan → Follows (rules_of project []) t x n plan
-follows_is project t x n plan e fits offered done works_if role_if counted kept path planned = record {
+pub follows_is : (project : List Entity) (script : List ScriptEdit) (t : List Entry) (x : Entry) (n : ℕ) (plan : Option Def) → number_of x ≡ Some n → FitsNode (rules_of project script) t x
+    → IsOffered (offer ((rules_of project script).tree t) (plain t) n) n x → IsDoneBy (offer ((rules_of project script).tree t) (plain t) n) (kind_at (entity_at project n))
+    → (kind_at (entity_at project n) ≡ kinds.Work → has (works ((rules_of project script).tree t)) n ≡ true)
+    → (has (works ((rules_of project script).tree t)) n ≡ true → (rules_of project script).role t n ≡ Cutting)
+    → ((j : ℕ) → offer ((rules_of project script).tree t) (plain t) n ≡ Cuts j → stage n t ≡ Some j)
+    → ((m : ℕ) → has_some (m ∷ []) (dispatched x) ≡ false → (rules_of project script).path (t ++ x ∷ []) m ≡ (rules_of project script).path t m)
+    → ((m v : ℕ) → (rules_of project script).path (t ++ Dispatch m v ∷ []) m ≡ blocks_in (entity_at (store_after script project t)) m)
+    → IsPlanned (store_after script project t) x plan → Follows (rules_of project script) t x n plan
+follows_is project script t x n plan e fits offered done works_if role_if counted kept path planned = record {
   number = e;
   channel = λ m. refl;
   tree = refl;
   frozen = kept;
-  sent = λ m v f. sent_path project plan m ((rules_of project []).path (t ++ x ∷ []) m) (subst (λ (y : Entry). (rules_of project []).path (t ++ y ∷ []) m ≡ blocks_in (entity_at project) m) (sym f) (path m v)) (planned m v f);
+  sent = λ m v f. sent_path (store_after script project t) plan m ((rules_of project script).path (t ++ x ∷ []) m) (subst (λ (y : Entry). (rules_of project script).path (t ++ y ∷ []) m ≡ blocks_in (entity_at (store_after script project t)) m) (sym f) (path m v)) (planned m v f);
   starts = λ m v f. starts m v f;
   ends = λ m f. ends m f;
 }
   where
-    starts : (m v : ℕ) → x ≡ Dispatch m v → (has (works ((rules_of project []).tree t)) m ≡ true) × ((is_open m t || not (is_busy (rules_of project []) t ((rules_of project []).channel t m))) ≡ true)
+    starts : (m v : ℕ) → x ≡ Dispatch m v → (has (works ((rules_of project script).tree t)) m ≡ true) × ((is_open m t || not (is_busy (rules_of project script) t ((rules_of project script).channel t m))) ≡ true)
     starts m v f =
         let g : Some m ≡ Some n = sym (ap number_of f) ∙ e in
         let s : n ≡ m = cc in
-        let k = started_kind (offer ((rules_of project []).tree t) t n) n m v (kind_at (entity_at project n)) (subst (IsOffered (offer ((rules_of project []).tree t) t n) n) f offered) done in
+        let k = started_kind (offer ((rules_of project script).tree t) (plain t) n) n m v (kind_at (entity_at project n)) (subst (IsOffered (offer ((rules_of project script).tree t) (plain t) n) n) f offered) done in
         let w = works_if k in
-        let i : is_enabled (rules_of project []) t n ≡ true = subst (λ (o : Option ℕ). IsSomeAnd o (λ q. is_enabled (rules_of project []) t q ≡ true)) e fits.enabled in
-        let j : may_go_on (rules_of project []) t n Cutting ≡ true = subst (λ (role : Role). may_go_on (rules_of project []) t n role ≡ true) (role_if w) i in (
-          subst (λ (q : ℕ). has (works ((rules_of project []).tree t)) q ≡ true) s w,
-          subst (λ (q : ℕ). (is_open q t || not (is_busy (rules_of project []) t ((rules_of project []).channel t q))) ≡ true) s j,
+        let i : is_enabled (rules_of project script) t n ≡ true = subst (λ (o : Option ℕ). IsSomeAnd o (λ q. is_enabled (rules_of project script) t q ≡ true)) e fits.enabled in
+        let j : may_go_on (rules_of project script) t n Cutting ≡ true = subst (λ (role : Role). may_go_on (rules_of project script) t n role ≡ true) (role_if w) i in (
+          subst (λ (q : ℕ). has (works ((rules_of project script).tree t)) q ≡ true) s w,
+          subst (λ (q : ℕ). (is_open q t || not (is_busy (rules_of project script) t ((rules_of project script).channel t q))) ≡ true) s j,
         )
 
     ends : (m : ℕ) → x ≡ End m → is_open m t ≡ true
     ends m f =
         let g : Some m ≡ Some n = sym (ap number_of f) ∙ e in
         let s : n ≡ m = cc in
-        let z = ended_cuts (offer ((rules_of project []).tree t) t n) n m (subst (IsOffered (offer ((rules_of project []).tree t) t n) n) f offered) in
+        let z = ended_cuts (offer ((rules_of project script).tree t) (plain t) n) n m (subst (IsOffered (offer ((rules_of project script).tree t) (plain t) n) n) f offered) in
         subst (λ (q : ℕ). is_open q t ≡ true) s (ap is_some (counted z.0 z.1))
 
 -- a channel's number is small
@@ -243,3 +243,32 @@ none_open r slots h = record {
   opens = λ n. ap (λ (o : Option OpenStep). is_step_of o n) (sym (h (r.channel [] n)));
   each = λ c. subst (λ (o : Option OpenStep). IfSome o (λ p. IsOpenStep r [] c p)) (sym (h c)) tt;
 }
+
+-- ---- after a verdict
+
+-- a verdict leaves the tree's run as it is
+pub edit_follows : (project : List Entity) (script : List ScriptEdit) (tree : TreeValue) (frames : Frames) (t : List Entry) (flags : List Bool) (vars : List (ℕ × ℤ)) (slots : List (Option OpenStep)) (i : ℕ) (w : Verdict)
+    → IsState project script tree frames t flags vars slots → Legal project script (t ++ Edit i w ∷ []) → plain (t ++ Edit i w ∷ []) ≡ plain t → marks (t ++ Edit i w ∷ []) ≡ marks t ++ []
+    → ((v : ℕ) → vars_after script project (t ++ Edit i w ∷ []) v ≡ vars_after script project t v) → ((n : ℕ) → stage n (t ++ Edit i w ∷ []) ≡ stage n t)
+    → ((n : ℕ) → (rules_of project script).path (t ++ Edit i w ∷ []) n ≡ (rules_of project script).path t n) → IsState project script tree frames (t ++ Edit i w ∷ []) flags vars slots
+edit_follows project script tree frames t flags vars slots i w k legal plains marked_so vars_so stages paths = record {
+  tree_is = k.tree_is;
+  at = subst (IsAt tree.nodes frames) (sym plains) k.at;
+  legal = legal;
+  flags_fit = k.flags_fit;
+  marks_are = λ n. k.marks_are n ∙ ap (λ (ns : List ℕ). has ns n) (sym (marked_so ∙ append_none (marks t)));
+  vars_are = λ v. k.vars_are v ∙ sym (vars_so v);
+  vars_there = k.vars_there;
+  steps_are = record {
+    opens = λ n. ap is_some (stages n) ∙ k.steps_are.opens n;
+    each = λ c. each c (slot_at slots c) (k.steps_are.each c);
+  };
+}
+  where
+    append_none : (ns : List ℕ) → ns ++ [] ≡ ns
+    append_none [] = refl
+    append_none (n ∷ ns) = ap (λ (ms : List ℕ). n ∷ ms) (append_none ns)
+
+    each : (c : ℕ) (slot : Option OpenStep) → IfSome slot (λ o. IsOpenStep (rules_of project script) t c o) → IfSome slot (λ o. IsOpenStep (rules_of project script) (t ++ Edit i w ∷ []) c o)
+    each c None h = tt
+    each c (Some o) h = record { channel = h.channel; among = h.among; path = paths o.step ∙ h.path }

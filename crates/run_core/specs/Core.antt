@@ -3,6 +3,7 @@ use Rattle.std.specs.Prelude.{◌≡◌, ◌<◌, ◌≤◌, ℕ, Bool, true, fa
 use Rattle.std.specs.Global.{Vec}
 use Rattle.std.specs.List.{All}
 use Rattle.entity_types.specs.declared.entity.Entity.{Entity}
+use Rattle.entity_types.specs.declared.edit.Edit.{Edit}
 use Rattle.run_log.specs.declared.entry.Entry.{Entry}
 use Rattle.run_log.specs.declared.entry.TheConstants.{MAX_ENTRIES}
 use Rattle.trace_law.specs.Offer.{Offer, Starts, offer}
@@ -13,6 +14,7 @@ use Rattle.run_core.specs.Kept.{State}
 -- a run as a core holds it
 pub record Run : Type 0 where
   pub project : List Entity
+  pub script : List Edit
   pub limit : ℕ
   pub log : List Entry
   pub actors : List ℕ

@@ -1,6 +1,7 @@
 -- What a core keeps, in terms of the entries so far.
 use Rattle.std.specs.Prelude.{◌≡◌, ℕ, ℤ, Bool, true, List, [], length, Option, Some, IsSome, IsSomeAnd, IfSome, Ok}
 use Rattle.entity_types.specs.declared.entity.Entity.{Entity}
+use Rattle.entity_types.specs.declared.edit.Edit.{Edit}
 use Rattle.project_store.specs.Entities.{entity_at}
 use Rattle.step_def.specs.DefOf.{def_of}
 use Rattle.path_blocks.specs.declared.def.Def.{Def}
@@ -20,13 +21,12 @@ use Rattle.project_law.specs.Variables.{vars_after}
 use Rattle.project_law.specs.ProjectRules.{rules_of}
 use Rattle.project_law.specs.Legal.{Legal}
 use Rattle.run_core.specs.declared.open_steps.OpenStep.{OpenStep}
-use Rattle.run_core.specs.declared.definitions.Definitions.{Definitions}
-use Rattle.run_core.specs.Definitions.{def_at}
 use Rattle.run_core.specs.State.{mark_in, slot_at, is_step_of, variable_in}
 
--- the state of a run: its project, the entries so far, and how many of them there is room for
+-- the state of a run: its project and script, the entries so far, and how many of them there is room for
 pub record State : Type 0 where
   pub project : List Entity
+  pub script : List Edit
   pub list : List Entry
   pub room : ℕ
 
@@ -41,24 +41,17 @@ pub record AreOpen (r : Rules) (t : List Entry) (slots : List (Option OpenStep))
   pub opens : (n : ℕ) → is_open n t ≡ is_step_of (slot_at slots (r.channel t n)) n
   pub each : (c : ℕ) → IfSome (slot_at slots c) (λ o. IsOpenStep r t c o)
 
--- each workingstep of the tree has its definition
-abbrev pub AreDefined : List Entity → Definitions → Type 0
-AreDefined project definitions =
-    (n : ℕ) → has (works ((rules_of project []).tree [])) n ≡ true → IsSomeAnd (def_at definitions n) (λ d. def_of (entity_at project) n ≡ Ok d)
-
--- the list is a legal run of the project without edits, and all that is kept beside it is what it tells
-pub record IsState (project : List Entity) (tree : TreeValue) (definitions : Definitions) (frames : Frames) (t : List Entry) (flags : List Bool) (vars : List (ℕ × ℤ)) (slots : List (Option OpenStep)) : Type 0 where
+-- the list is a legal run of the project and the script, and what is kept beside it of the tree's run is what it tells
+pub record IsState (project : List Entity) (script : List Edit) (tree : TreeValue) (frames : Frames) (t : List Entry) (flags : List Bool) (vars : List (ℕ × ℤ)) (slots : List (Option OpenStep)) : Type 0 where
   pub tree_is : IsTreeOf (entity_at project) (main_of project) tree
-  pub defined : AreDefined project definitions
-  pub at : IsAt tree.nodes frames t
-  pub legal : Legal project [] t
-  pub no_edits : plain t ≡ t
+  pub at : IsAt tree.nodes frames (plain t)
+  pub legal : Legal project script t
   pub flags_fit : length flags ≡ length tree.nodes
   pub marks_are : (n : ℕ) → mark_in tree.nodes flags n ≡ has (marks t) n
-  pub vars_are : (v : ℕ) → value_at vars v ≡ vars_after [] project t v
+  pub vars_are : (v : ℕ) → value_at vars v ≡ vars_after script project t v
   pub vars_there : (n v : ℕ) → variable_in tree n ≡ Some v → IsSome (value_of_variable vars v)
-  pub steps_are : AreOpen (rules_of project []) t slots
+  pub steps_are : AreOpen (rules_of project script) t slots
 
--- the plan of an entry that dispatches a step is that of the step's definition
+-- the plan of an entry that dispatches a step is that of the step's definition in this store
 abbrev pub IsPlanned : List Entity → Entry → Option Def → Type 0
-IsPlanned project x plan = (n v : ℕ) → x ≡ Dispatch n v → IsSomeAnd plan (λ d. def_of (entity_at project) n ≡ Ok d)
+IsPlanned store x plan = (n v : ℕ) → x ≡ Dispatch n v → IsSomeAnd plan (λ d. def_of (entity_at store) n ≡ Ok d)

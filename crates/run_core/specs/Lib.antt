@@ -1,8 +1,8 @@
 pub mod State
-pub mod Definitions
 pub mod Opening
 pub mod Kept
 pub mod Standings
 pub mod Kinds
 pub mod Core
 pub mod Idle
+pub mod Edits

@@ -1,6 +1,10 @@
 -- What a core keeps beside its log, and how each piece moves with one more entry.
 use Rattle.std.specs.Prelude.{◌==◌, ◌||◌, not, if◌then◌else◌, pos, ℕ, ℤ, Bool, true, false, List, [], unwrap_or, is_none, slice_get, Option, Some, None, option_map}
 use Rattle.std.specs.Option.{option_map_or}
+use Rattle.std.specs.Result.{result_ok}
+use Rattle.entity_types.specs.declared.entity.Entity.{Entity}
+use Rattle.project_store.specs.Entities.{entity_at}
+use Rattle.step_def.specs.DefOf.{def_of}
 use Rattle.path_blocks.specs.declared.def.Def.{Def}
 use Rattle.exec_tree.specs.declared.node.BareNode.{BareNode}
 use Rattle.exec_tree.specs.declared.role.Role.{Role}
@@ -17,8 +21,6 @@ use Rattle.run_frames.specs.declared.deed.Deed.{Deed}
 use Rattle.run_frames.specs.declared.deed.Deed.TheVariants as deeds
 use Rattle.path_blocks.specs.declared.block.Block.{Block as PathBlock}
 use Rattle.path_blocks.specs.Path.{path_of}
-use Rattle.run_core.specs.declared.definitions.Definitions.{Definitions}
-use Rattle.run_core.specs.Definitions.{def_at}
 use Rattle.run_core.specs.declared.open_steps.OpenStep.{OpenStep}
 
 -- the flag at a place, no where there is none
@@ -102,21 +104,21 @@ flag_after nodes set flag place = option_map_or (is_place_of nodes place) set fa
 abbrev pub path_in : Option OpenStep → List PathBlock
 path_in slot = option_map_or (λ o. path_of o.plan) slot []
 
--- the entry of node n, by what it does next and what is kept
-abbrev pub entry_by : TreeValue → List (Option OpenStep) → (ℕ → ℤ) → ℕ → Deed → Entry
-entry_by tree slots vars n deeds.Starts = Dispatch n 0
-entry_by tree slots vars n (deeds.Cuts k) = cut n k (slice_get (path_in (slot_at slots (channel_in tree.nodes n))) k)
-entry_by tree slots vars n deeds.Assigns = Assign n (value_said vars (said_in tree n))
-entry_by tree slots vars n deeds.Sets = Set n
-entry_by tree slots vars n deeds.Passes = Pass n
-entry_by tree slots vars n deeds.Notes = Note n
-entry_by tree slots vars n (deeds.Picks count picked) = Pick n picked
-entry_by tree slots vars n deeds.Tests = Test n (answer_said vars (said_in tree n))
+-- the entry of node n, by what it does next and what is kept, a dispatch at this version
+abbrev pub entry_by : TreeValue → List (Option OpenStep) → (ℕ → ℤ) → ℕ → ℕ → Deed → Entry
+entry_by tree slots vars version n deeds.Starts = Dispatch n version
+entry_by tree slots vars version n (deeds.Cuts k) = cut n k (slice_get (path_in (slot_at slots (channel_in tree.nodes n))) k)
+entry_by tree slots vars version n deeds.Assigns = Assign n (value_said vars (said_in tree n))
+entry_by tree slots vars version n deeds.Sets = Set n
+entry_by tree slots vars version n deeds.Passes = Pass n
+entry_by tree slots vars version n deeds.Notes = Note n
+entry_by tree slots vars version n (deeds.Picks count picked) = Pick n picked
+entry_by tree slots vars version n deeds.Tests = Test n (answer_said vars (said_in tree n))
 
--- the definition of the plan that is made for what node n does next: of a step that starts its own
-abbrev pub plan_by : Definitions → ℕ → Deed → Option Def
-plan_by definitions n deeds.Starts = def_at definitions n
-plan_by definitions n _ = None
+-- the definition of the plan that is made for what node n does next: of a step that starts its own in this store
+abbrev pub plan_by : List Entity → ℕ → Deed → Option Def
+plan_by store n deeds.Starts = result_ok (def_of (entity_at store) n)
+plan_by store n _ = None
 
 -- the channel of the entry's node
 abbrev pub entry_channel : TreeValue → Entry → ℕ

@@ -1,29 +1,33 @@
-//! A core with its own project and limit.
+//! A core with its own project, script and limit.
 
-ghost use Rattle.std.specs.Prelude.{◌≡◌, ◌<◌, ◌≤◌, ◌++◌, ◌∷◌, [], true, max, length, Some, IsSome, IfSome, IfOk, OnErr, option_map};
+ghost use Rattle.std.specs.Prelude.{◌≡◌, ◌<◌, ◌≤◌, ◌+◌, ◌++◌, ℕ, ◌∷◌, [], true, max, length, Some, IsSome, IfSome, IfOk, OnErr, option_map};
 ghost use Rattle.run_log.specs.declared.entry.TheConstants.{MAX_ENTRIES};
 ghost use Rattle.exec_tree.specs.Exec.{has};
-ghost use Rattle.run_law.specs.Fits.{Fits, next_of};
+ghost use Rattle.run_law.specs.Fits.{Fits, is_plain, plain, next_of, judged};
 ghost use Rattle.run_law.specs.Sound.{IsSound};
 ghost use Rattle.run_law.specs.Replay.{made, ready, turn};
-ghost use Rattle.project_law.specs.ProjectRules.{rules_of, store_channels};
+ghost use Rattle.project_law.specs.Script.{store_after};
+ghost use Rattle.project_law.specs.ProjectRules.{rules_of, store_channels, store_steps, version_after};
 ghost use Rattle.project_law.specs.Legal.{Legal};
 ghost use Rattle.run_core.specs.Kept.{IsPlanned};
 ghost use Rattle.run_frames.specs.Standing.{IsNextOf};
 ghost use Rattle.run_core.specs.Standings.{standing_of};
 ghost use Rattle.run_core.specs.Core.{starts_next};
-ghost use Rattle.run_core.specs.declared.standings.Standing.TheVariants.{Ready};
+ghost use Rattle.run_core.specs.declared.standings.Standing.TheVariants.{Ready, EditDue};
+ghost use Rattle.run_log.specs.declared.entry.Entry.TheVariants.{Edit};
+ghost use Rattle.run_core.specs.Edits.{reached_by};
 
 use crate::standings::{Standing, standing_by};
 use crate::state::{Made, RunState};
 use edit_rules::Project;
-use nc_base::{NoMemory, Number};
+use entity_types::Script;
+use nc_base::{NoMemory, Number, Steps, Verdict};
 use path_blocks::Plan;
-use project_law::laws::rules_without_edits;
 use run_law::laws::{legal_runs, what_is_made_fits};
 use run_log::Entry;
 use std::alloc::Global;
 use std::marker::Model;
+use std::sync::ledger::Ledger;
 
 /// What a channel can do: the node that goes on, and whether it is a workingstep that is dispatched by it.
 #[derive(Clone, Copy, Debug, PartialEq, Eq)]
@@ -32,7 +36,7 @@ pub struct Action {
     pub starts: bool,
 }
 
-/// A core with its own project and limit, and no edits. Contracts see these, its log and its actors.
+/// A core with its own project, script and limit. Contracts see these, its log and its actors.
 #[derive(Drop)]
 pub struct FreeCore {
     state: RunState,
@@ -45,19 +49,19 @@ impl Model for FreeCore {
 
     ghost Value = { Run };
 
-    ghost view = { λ a. record { project = a.state.project; limit = a.limit; log = a.state.list; actors = a.actors.items } };
+    ghost view = { λ a. record { project = a.state.project; script = a.state.script; limit = a.limit; log = a.state.list; actors = a.actors.items } };
 
     ghost invariant = { λ a. IsKept a.state a.limit a.actors };
 }
 
 impl FreeCore {
     /// A core with an empty log.
-    pub fn open(alloc: Global, project: Project, limit: u32) -> Result<FreeCore, NoMemory>
+    pub fn open(alloc: Global, project: Project, script: Script, limit: u32) -> Result<FreeCore, NoMemory>
         requires { (1 ≤ limit) × (limit ≤ MAX_ENTRIES) }
-        ensures { IfOk result (λ core. core ≡ record { project = project; limit = limit; log = []; actors = [] }) }
+        ensures { IfOk result (λ core. core ≡ record { project = project; script = script; limit = limit; log = []; actors = [] }) }
     {
         let actors = Vec::with_capacity(alloc, limit as usize)?;
-        let state = RunState::open(alloc, project, limit)?;
+        let state = RunState::open(alloc, project, script, limit)?;
         Ok(FreeCore {
             state,
             limit,
@@ -67,23 +71,24 @@ impl FreeCore {
 
     /// Where the run stands.
     pub fn standing(&self) -> Standing
-        ensures stands { result ≡ standing_of (rules_of self.now.project []) self.now.limit self.now.log }
-        ensures legal { Legal self.now.project [] self.now.log }
+        ensures stands { result ≡ standing_of (rules_of self.now.project self.now.script) self.now.limit self.now.log }
+        ensures legal { Legal self.now.project self.now.script self.now.log }
     {
         self.state.legal();
-        rules_without_edits();
+        let all = self.state.are_judged();
+        let waiting = self.state.all_wait();
         standing_by(
-            self.state.is_over(),
-            self.state.all_wait(),
+            all && self.state.is_over(),
+            all && waiting,
             self.state.log().len() >= self.limit as usize,
-            false,
+            self.state.is_due(waiting),
         )
     }
 
     /// The first enabled node of a channel, and whether it is a workingstep to be dispatched.
     pub fn ready(&self, channel: u8) -> Option<Action>
-        ensures node { option_map (λ it. it.node) result ≡ ready (rules_of self.now.project []) self.now.log channel }
-        ensures starts { IfSome result (λ it. it.starts ≡ starts_next (rules_of self.now.project []) self.now.log it.node) }
+        ensures node { option_map (λ it. it.node) result ≡ ready (rules_of self.now.project self.now.script) self.now.log channel }
+        ensures starts { IfSome result (λ it. it.starts ≡ starts_next (rules_of self.now.project self.now.script) self.now.log it.node) }
     {
         let Some(node) = self.state.ready(channel) else {
             return None;
@@ -101,8 +106,8 @@ impl FreeCore {
 
     /// The project's rules are sound, and the log is a legal run that is no longer than its limit.
     pub fn legal(&self)
-        ensures sound { IsSound (rules_of self.now.project []) }
-        ensures legal { Legal self.now.project [] self.now.log }
+        ensures sound { IsSound (rules_of self.now.project self.now.script) }
+        ensures legal { Legal self.now.project self.now.script self.now.log }
         ensures within { length self.now.log ≤ self.now.limit }
     {
         self.state.legal();
@@ -110,21 +115,22 @@ impl FreeCore {
 
     /// What a node where the run can go on makes next.
     fn made(&self, alloc: Global, n: Number) -> Result<Made, NoMemory>
-        requires { has (next_of (rules_of self.now.project []) self.now.log) n ≡ true }
-        ensures entry { IfOk result (λ it. it.entry ≡ made (rules_of self.now.project []) self.now.log n) }
-        ensures planned { IfOk result (λ it. IsPlanned self.now.project it.entry it.plan) }
-        ensures in_order { IfOk result (λ it. IsNextOf ((rules_of self.now.project []).tree self.now.log) self.now.log it.entry) }
+        requires { has (next_of (rules_of self.now.project self.now.script) self.now.log) n ≡ true }
+        ensures entry { IfOk result (λ it. it.entry ≡ made (rules_of self.now.project self.now.script) self.now.log n) }
+        ensures planned { IfOk result (λ it. IsPlanned (store_after self.now.script self.now.project self.now.log) it.entry it.plan) }
+        ensures in_order { IfOk result (λ it. IsNextOf ((rules_of self.now.project self.now.script).tree self.now.log) (plain self.now.log) it.entry) }
     {
         self.state.made(alloc, n)
     }
 
-    /// Puts an entry that fits at the log's end, and its actor.
+    /// Puts an entry of a node that fits at the log's end, and its actor.
     fn append(&mut self, who: u8, entry: Entry, plan: Option<Plan>)
         requires room { length self.old.log < self.old.limit }
         requires who { who < 16 }
-        requires fits { Fits (rules_of self.old.project []) self.old.log entry }
-        requires planned { IsPlanned self.old.project entry plan }
-        requires in_order { IsNextOf ((rules_of self.old.project []).tree self.old.log) self.old.log entry }
+        requires node { is_plain entry ≡ true }
+        requires fits { Fits (rules_of self.old.project self.old.script) self.old.log entry }
+        requires planned { IsPlanned (store_after self.old.script self.old.project self.old.log) entry plan }
+        requires in_order { IsNextOf ((rules_of self.old.project self.old.script).tree self.old.log) (plain self.old.log) entry }
         ensures { self.new ≡ record self.old { log = self.old.log ++ entry ∷ []; actors = self.old.actors ++ who ∷ [] } }
     {
         self.state.follow(entry, plan);
@@ -133,22 +139,49 @@ impl FreeCore {
 
     /// Appends the entry of the first enabled node of a channel.
     pub fn act(&mut self, alloc: Global, who: u8, channel: u8) -> Result<Entry, NoMemory>
-        requires stands { standing_of (rules_of self.old.project []) self.old.limit self.old.log ≡ Ready }
-        requires one { IsSome (ready (rules_of self.old.project []) self.old.log channel) }
+        requires stands { standing_of (rules_of self.old.project self.old.script) self.old.limit self.old.log ≡ Ready }
+        requires one { IsSome (ready (rules_of self.old.project self.old.script) self.old.log channel) }
         requires who { who < 16 }
-        ensures turn { IfOk result (λ x. turn (rules_of self.old.project []) self.old.limit self.old.log channel ≡ Some x) }
+        ensures turn { IfOk result (λ x. turn (rules_of self.old.project self.old.script) self.old.limit self.old.log channel ≡ Some x) }
         ensures ok { IfOk result (λ x. self.new ≡ record self.old { log = self.old.log ++ x ∷ []; actors = self.old.actors ++ who ∷ [] }) }
         ensures err { OnErr result (self.new ≡ self.old) }
     {
         let n = self.ready(channel).unwrap().node;
         self.legal();
         legal_runs();
-        rules_without_edits();
         what_is_made_fits();
         let it = self.made(alloc, n)?;
         let entry = it.entry;
         self.append(who, entry, it.plan);
         Ok(entry)
+    }
+
+    /// Appends the verdict on the next edit, which is due, and puts the edit where it is accepted.
+    pub fn judge_next<L: Ledger>(
+        &mut self,
+        alloc: Global,
+        who: u8,
+        steps: &mut Steps<L>,
+    ) -> Result<Verdict, NoMemory>
+        requires stands { standing_of (rules_of self.old.project self.old.script) self.old.limit self.old.log ≡ EditDue }
+        requires who { who < 16 }
+        ensures turn { IfOk result (λ verdict. (channel : ℕ) → turn (rules_of self.old.project self.old.script) self.old.limit self.old.log channel ≡ Some (Edit (judged self.old.log) verdict)) }
+        ensures ok { IfOk result (λ verdict. self.new ≡ record self.old { log = self.old.log ++ Edit (judged self.old.log) verdict ∷ []; actors = self.old.actors ++ who ∷ [] }) }
+        ensures err { OnErr result (self.new ≡ self.old) }
+        ensures ticks { steps.new ≤ steps.old + reached_by self.old.project self.old.script self.old.log (judged self.old.log) }
+    {
+        let verdict = self.state.judge(alloc, steps)?;
+        self.state.settle(alloc, verdict)?;
+        self.actors.push_reserved(who);
+        Ok(verdict)
+    }
+
+    /// The version of a workingstep of the tree: how many edits that were accepted reached it.
+    pub fn version(&self, step: Number) -> u32
+        requires { has (store_steps self.now.project) step ≡ true }
+        ensures { result ≡ version_after self.now.script self.now.project self.now.log step }
+    {
+        self.state.version(step)
     }
 
     /// The log.

@@ -1,8 +1,9 @@
 //! The core of a run: which entry may come next, and the run that makes one legal entry after another. The tests stand in the crate
-//! path_tests.
+//! core_tests.
 #![tactic(auto)]
 
-mod definitions;
+mod definition;
+mod edits;
 mod free;
 mod idle;
 mod marks;

@@ -1,22 +1,28 @@
 //! A core under a name.
 
-ghost use Rattle.std.specs.Prelude.{◌≡◌, ◌<◌, ◌≤◌, ◌++◌, ◌∷◌, [], max, length, IsSome, IfSome, IfOk, OnErr, option_map, Some};
+ghost use Rattle.std.specs.Prelude.{◌≡◌, ◌<◌, ◌≤◌, ◌+◌, ◌++◌, ◌∷◌, [], ℕ, true, max, length, IsSome, IfSome, IfOk, OnErr, option_map, Some};
 ghost use Rattle.run_log.specs.declared.entry.TheConstants.{MAX_ENTRIES};
+ghost use Rattle.run_log.specs.declared.entry.Entry.TheVariants.{Edit};
+ghost use Rattle.exec_tree.specs.Exec.{has};
+ghost use Rattle.run_law.specs.Fits.{judged};
 ghost use Rattle.run_law.specs.Sound.{IsSound};
 ghost use Rattle.run_law.specs.Replay.{ready, turn};
-ghost use Rattle.project_law.specs.ProjectRules.{rules_of, store_channels};
+ghost use Rattle.project_law.specs.ProjectRules.{rules_of, store_channels, store_steps, version_after};
 ghost use Rattle.project_law.specs.Legal.{Legal};
 ghost use Rattle.run_core.specs.Standings.{standing_of};
 ghost use Rattle.run_core.specs.Core.{starts_next};
-ghost use Rattle.run_core.specs.declared.standings.Standing.TheVariants.{Ready};
+ghost use Rattle.run_core.specs.declared.standings.Standing.TheVariants.{Ready, EditDue};
+ghost use Rattle.run_core.specs.Edits.{reached_by};
 
 use crate::free::{Action, FreeCore};
 use crate::standings::Standing;
 use edit_rules::Project;
-use nc_base::NoMemory;
+use entity_types::Script;
+use nc_base::{NoMemory, Number, Steps, Verdict};
 use run_log::Entry;
 use std::alloc::Global;
 use std::marker::{Brand, Model, PhantomData};
+use std::sync::ledger::Ledger;
 
 /// Which run it is. The caller picks the name.
 pub trait RunName {
@@ -57,7 +63,7 @@ impl<N: RunName> Model for RunCore<N> {
 
     ghost view = { λ a. (a.core.log, a.core.actors) };
 
-    ghost invariant = { λ a. (a.core.project ≡ N.project) × (N.script ≡ []) × (a.core.limit ≡ N.limit) };
+    ghost invariant = { λ a. (a.core.project ≡ N.project) × (a.core.script ≡ N.script) × (a.core.limit ≡ N.limit) };
 }
 
 impl<N: RunName> RunCore<N> {
@@ -65,14 +71,14 @@ impl<N: RunName> RunCore<N> {
     ///
     /// # Errors
     /// `NoMemory` where there is none.
-    pub fn open(alloc: Global, project: Project, limit: u32) -> Result<RunCore<N>, NoMemory>
+    pub fn open(alloc: Global, project: Project, script: Script, limit: u32) -> Result<RunCore<N>, NoMemory>
         requires limited { (1 ≤ limit) × (limit ≤ MAX_ENTRIES) }
         requires project { project ≡ N.project }
-        requires script { N.script ≡ [] }
+        requires script { script ≡ N.script }
         requires limit { limit ≡ N.limit }
         ensures { IfOk result (λ core. core ≡ ([], [])) }
     {
-        let core = FreeCore::open(alloc, project, limit)?;
+        let core = FreeCore::open(alloc, project, script, limit)?;
         Ok(RunCore {
             core,
             of: PhantomData,
@@ -110,10 +116,38 @@ impl<N: RunName> RunCore<N> {
         self.core.act(alloc, who, channel)
     }
 
-    /// What holds of every core: the rules of its project are sound, it has no edits, and its log is a legal run that is no longer than its limit.
+    /// Appends the verdict on the next edit, which is due, for the actor `who`, below 16, and puts the edit where it is accepted. It counts a step
+    /// for each definition that is looked up: at most one for each workingstep that the edit reaches.
+    ///
+    /// # Errors
+    /// `NoMemory` where there is none to judge or to put the edit; the core is then as it was.
+    pub fn judge_next<L: Ledger>(
+        &mut self,
+        alloc: Global,
+        who: u8,
+        steps: &mut Steps<L>,
+    ) -> Result<Verdict, NoMemory>
+        requires stands { standing_of (rules_of N.project N.script) N.limit self.old.0 ≡ EditDue }
+        requires who { who < 16 }
+        ensures turn { IfOk result (λ verdict. (channel : ℕ) → turn (rules_of N.project N.script) N.limit self.old.0 channel ≡ Some (Edit (judged self.old.0) verdict)) }
+        ensures ok { IfOk result (λ verdict. self.new ≡ (self.old.0 ++ Edit (judged self.old.0) verdict ∷ [], self.old.1 ++ who ∷ [])) }
+        ensures err { OnErr result (self.new ≡ self.old) }
+        ensures ticks { steps.new ≤ steps.old + reached_by N.project N.script self.old.0 (judged self.old.0) }
+    {
+        self.core.judge_next(alloc, who, steps)
+    }
+
+    /// The version of a workingstep of the project's tree: how many edits that were accepted reached it. It takes no memory.
+    pub fn version(&self, step: Number) -> u32
+        requires { has (store_steps N.project) step ≡ true }
+        ensures { result ≡ version_after N.script N.project self.now.0 step }
+    {
+        self.core.version(step)
+    }
+
+    /// What holds of every core: the rules of its project and script are sound, and its log is a legal run that is no longer than its limit.
     pub fn legal(&self)
         ensures sound { IsSound (rules_of N.project N.script) }
-        ensures no_edits { N.script ≡ [] }
         ensures legal { Legal N.project N.script self.now.0 }
         ensures within { length self.now.0 ≤ N.limit }
     {

@@ -1,12 +1,14 @@
 //! A run under a schedule, on one thread.
 
-ghost use Rattle.std.specs.Prelude.{◌≡◌, ◌<◌, ◌≤◌, ◌∷◌, ◌++◌, ℕ, [], List, true, false, is_some, IfOk, OnOk, max, length};
+ghost use Rattle.std.specs.Prelude.{◌≡◌, ◌<◌, ◌≤◌, ◌∷◌, ◌++◌, ℕ, [], List, true, false, is_some, IfOk, OnOk, IsSomeAnd, max, length};
 ghost use Rattle.std.specs.Option.{option_to_list};
 ghost use Rattle.run_log.specs.declared.entry.TheConstants.{MAX_ENTRIES};
 ghost use Rattle.run_law.specs.Endings.{EndsSo};
 ghost use Rattle.run_law.specs.Replay.{has_ended, turn, turns_of, rounds, replay};
 ghost use Rattle.project_law.specs.ProjectRules.{rules_of, channel_numbers, upto};
 ghost use Rattle.project_law.specs.Run.{IsRun};
+ghost use Rattle.run_core.specs.Standings.{standing_of};
+ghost use Rattle.run_core.specs.declared.standings.Standing.TheVariants.{EditDue};
 ghost use Rattle.run_core.specs.State.{flag_at};
 ghost use Rattle.run_core.specs.Idle.{AreIdle};
 
@@ -14,22 +16,41 @@ use crate::idle::IdleChannels;
 use crate::named::{RunCore, RunName};
 use crate::standings::{Standing, is_over};
 use edit_rules::Project;
-use nc_base::NoMemory;
-use project_law::laws::{project_rules_are_sound, rules_without_edits};
+use entity_types::Script;
+use nc_base::{NoMemory, Steps};
+use project_law::laws::{project_rules_are_sound};
 use run_law::laws::{endings_by_next, replay_ends};
 use run_log::{Ending, Entry, Log};
 use std::alloc::Global;
 use std::marker::Brand;
+use std::sync::ledger::{Blank, Ledger};
 
 /// The actor of a run under a schedule: the caller.
 const CALLER: u8 = 8;
+
+/// The verdict on the next edit, by a counter of its own.
+fn judge_counted<N: RunName, L: Ledger>(
+    core: &mut RunCore<N>,
+    alloc: Global,
+    blank: Blank,
+) -> Result<(), NoMemory>
+    requires name { blank.name ≡ L.name }
+    requires parts { blank.parts ≡ L.parts }
+    requires one { blank.parts ≡ 1 }
+    requires stands { standing_of (rules_of N.project N.script) N.limit core.old.0 ≡ EditDue }
+    ensures { OnOk result ((channel : ℕ) → IsSomeAnd (turn (rules_of N.project N.script) N.limit core.old.0 channel) (λ x. core.new.0 ≡ core.old.0 ++ x ∷ [])) }
+{
+    let (book, share) = blank.open::<L>();
+    let mut counter = Steps::new(book, share);
+    core.judge_next(alloc, CALLER, &mut counter)?;
+    Ok(())
+}
 
 /// One turn of a channel. It says whether it made an entry.
 fn turn<N: RunName>(core: &mut RunCore<N>, alloc: Global, channel: u8) -> Result<bool, NoMemory>
     ensures log { OnOk result (core.new.0 ≡ core.old.0 ++ option_to_list (turn (rules_of N.project N.script) N.limit core.old.0 channel)) }
     ensures made { IfOk result (λ made. made ≡ is_some (turn (rules_of N.project N.script) N.limit core.old.0 channel)) }
 {
-    rules_without_edits();
     core.legal();
     match core.standing() {
         Standing::Ready => match core.ready(channel) {
@@ -39,7 +60,11 @@ fn turn<N: RunName>(core: &mut RunCore<N>, alloc: Global, channel: u8) -> Result
             }
             None => Ok(false),
         },
-        _ => Ok(false),
+        Standing::EditDue => {
+            judge_counted::<N, Brand>(core, alloc, Blank::new(1))?;
+            Ok(true)
+        }
+        Standing::Done | Standing::Blocked | Standing::Limit => Ok(false),
     }
 }
 
@@ -145,19 +170,20 @@ fn log_of(alloc: Global, entries: &[Entry]) -> Result<Log, NoMemory>
 fn replay_named<N: RunName>(
     alloc: Global,
     project: Project,
+    script: Script,
     limit: u32,
     schedule: &[u8],
 ) -> Result<(Log, Ending), NoMemory>
     requires limited { (1 ≤ limit) × (limit ≤ MAX_ENTRIES) }
     requires project { project ≡ N.project }
-    requires script { N.script ≡ [] }
+    requires script { script ≡ N.script }
     requires limit { limit ≡ N.limit }
     ensures replayed { IfOk result (λ ran. ran.0 ≡ replay (rules_of N.project N.script) (channel_numbers N.project) schedule.now N.limit) }
     ensures run { IfOk result (λ ran. IsRun N.project N.script N.limit ran.0 ran.1) }
 {
     project_rules_are_sound();
     replay_ends();
-    let mut core = RunCore::<N>::open(alloc, project, limit)?;
+    let mut core = RunCore::<N>::open(alloc, project, script, limit)?;
     let mut idle = IdleChannels::new();
     let channels = channel_list(alloc, core.channels())?;
     turns(&mut core, alloc, &mut idle, schedule)?;
@@ -167,7 +193,7 @@ fn replay_named<N: RunName>(
     Ok((log_of(alloc, core.log())?, ending))
 }
 
-/// The run of a project without edits under a schedule of channels: turns as scheduled, then rounds of all channels to its end, or until
+/// The run of a project and a script of edits under a schedule of channels: turns as scheduled, then rounds of all channels to its end, or until
 /// the log has `limit` entries, which is 1 to `MAX_ENTRIES`. The log is a legal run, and the ending is its own. A turn of a channel that the
 /// project doesn't have makes nothing.
 ///
@@ -176,12 +202,13 @@ fn replay_named<N: RunName>(
 pub fn replay(
     alloc: Global,
     project: Project,
+    script: Script,
     limit: u32,
     schedule: &[u8],
 ) -> Result<(Log, Ending), NoMemory>
     requires { (1 ≤ limit) × (limit ≤ MAX_ENTRIES) }
-    ensures replayed { IfOk result (λ ran. ran.0 ≡ replay (rules_of project []) (channel_numbers project) schedule.now limit) }
-    ensures run { IfOk result (λ ran. IsRun project [] limit ran.0 ran.1) }
+    ensures replayed { IfOk result (λ ran. ran.0 ≡ replay (rules_of project script) (channel_numbers project) schedule.now limit) }
+    ensures run { IfOk result (λ ran. IsRun project script limit ran.0 ran.1) }
 {
-    replay_named::<Brand>(alloc, project, limit, schedule)
+    replay_named::<Brand>(alloc, project, script, limit, schedule)
 }

@@ -1,44 +1,53 @@
 //! The state of a run: where it stands, what is set and open, and what the variables are.
 
-ghost use Rattle.std.specs.Prelude.{◌≡◌, ◌<◌, ◌≤◌, ◌++◌, ◌∷◌, [], true, max, length, IfOk, slice_get};
+ghost use Rattle.std.specs.Prelude.{◌≡◌, ◌<◌, ◌≤◌, ◌++◌, ◌∷◌, [], true, max, ◌+◌, length, IfOk, OnOk, OnErr, slice_get, is_none};
 ghost use Rattle.std.specs.List.{list_all};
 ghost use Rattle.nc_expr.specs.Vars.{value_at};
 ghost use Rattle.exec_tree.specs.Exec.{has};
 ghost use Rattle.exec_tree.specs.declared.limits.TheConstants.{MAX_CHANNELS};
 ghost use Rattle.trace_law.specs.Of.{number_of};
-ghost use Rattle.run_law.specs.Fits.{Fits, plain, next_of};
+ghost use Rattle.run_law.specs.Fits.{Fits, is_plain, plain, next_of, judged, is_due};
 ghost use Rattle.run_law.specs.Sound.{IsSound};
 ghost use Rattle.run_frames.specs.Deeds.{deed_offer};
 ghost use Rattle.run_law.specs.Endings.{waits};
 ghost use Rattle.run_law.specs.Replay.{cut, made, ready};
-ghost use Rattle.project_law.specs.ProjectRules.{rules_of, store_channels};
+ghost use Rattle.project_store.specs.Entities.{entity_at};
+ghost use Rattle.step_def.specs.Condition.{is_workingstep};
+ghost use Rattle.run_frames.specs.declared.deed.Deed.TheVariants.{Starts};
+ghost use Rattle.project_law.specs.Script.{store_after};
+ghost use Rattle.project_law.specs.ProjectRules.{rules_of, store_channels, store_steps, version_after};
 ghost use Rattle.project_law.specs.Legal.{Legal};
 ghost use Rattle.run_core.specs.State.{slot_at, path_in, entry_by, plan_by, entry_channel};
 ghost use Rattle.run_core.specs.Kept.{IsPlanned};
+ghost use Rattle.run_core.specs.Edits.{HasVersion, version_now, reached_by};
 ghost use Rattle.run_frames.specs.Standing.{IsNextOf};
-ghost use Rattle.run_log.specs.declared.entry.Entry.TheVariants.{Pick};
+ghost use Rattle.run_log.specs.declared.entry.Entry.TheVariants.{Pick, Edit};
 ghost use Rattle.run_core.specs.Standings.{is_empty};
 ghost use Rattle.run_core.specs.Core.{does_start, starts_next};
 
-use crate::definitions::Definitions;
+use crate::definition::definition_in;
+use crate::edits::Edits;
 use crate::marks::{self, Marks};
 use crate::open_steps::OpenSteps;
 use crate::planning::plan_of;
 use crate::questions::{Any, ReadyIn, Waitless};
 use crate::variables::{self, answer_of, opening_vars, value_of};
 use edit_rules::Project;
+use edit_rules::laws::tree_steps_are_workingsteps;
+use entity_types::Script;
 use exec_tree::Tree;
 use exec_tree::laws::{places_are_found, trees_are_sound, trees_tell};
-use nc_base::{NoMemory, Number};
+use nc_base::{NoMemory, Number, Steps, Verdict};
 use nc_expr::Vars;
 use path_blocks::Plan;
-use project_law::laws::{project_rules_are_sound, project_rules_move, rules_without_edits};
+use project_law::laws::{project_rules_are_sound, project_rules_move, stuck_project_waits};
 use project_store::Store;
 use run_frames::{Deed, Frames};
-use run_law::laws::legal_runs;
+use run_law::laws::{legal_runs, logs_move};
 use run_log::Entry;
 use std::alloc::Global;
 use std::marker::Model;
+use std::sync::ledger::Ledger;
 use trace_law::laws::{
     blocks_are_counted, next_stands_in_preorder, what_can_go_on_is_open, what_is_offered_follows,
 };
@@ -50,12 +59,12 @@ pub struct Made {
     pub plan: Option<Plan>,
 }
 
-/// The state of a run without edits. Contracts see the project's entities, the entries so far, and how many of them there is room for.
+/// The state of a run. Contracts see the project's entities, its script, the entries so far, and how many of them there is room for.
 #[derive(Drop)]
 pub struct RunState {
     store: Store,
     tree: Tree,
-    definitions: Definitions,
+    edits: Edits,
     log: Vec<Entry>,
     frames: Frames,
     marks: Marks,
@@ -66,12 +75,13 @@ pub struct RunState {
 impl Model for RunState {
     ghost use Rattle.std.specs.Prelude.{vec_capacity};
     ghost use Rattle.run_core.specs.Kept.{State, IsState};
+    ghost use Rattle.run_core.specs.Edits.{AreKept};
 
     ghost Value = { State };
 
-    ghost view = { λ a. record { project = a.store; list = a.log.items; room = vec_capacity a.log } };
+    ghost view = { λ a. record { project = a.store; script = a.edits.script; list = a.log.items; room = vec_capacity a.log } };
 
-    ghost invariant = { λ a. IsState a.store a.tree a.definitions a.frames a.log.items a.marks a.vars a.steps };
+    ghost invariant = { λ a. IsState a.store a.edits.script a.tree a.frames a.log.items a.marks a.vars a.steps × AreKept a.store a.log.items a.edits };
 }
 
 /// The next block of the open step of a channel, or its end.
@@ -91,18 +101,19 @@ fn next_cut(steps: &OpenSteps, channel: u8, n: Number, k: usize) -> Entry
     }
 }
 
-/// The entry of a node that does this next.
+/// The entry of a node that does this next, a dispatch at this version.
 fn entry_by(
     tree: &Tree,
     steps: &OpenSteps,
     vars: &Vars,
+    version: u32,
     n: Number,
     deed: Deed,
 ) -> Result<Entry, NoMemory>
-    ensures { IfOk result (λ entry. entry ≡ entry_by tree.now steps.now (value_at vars.now) n deed) }
+    ensures { IfOk result (λ entry. entry ≡ entry_by tree.now steps.now (value_at vars.now) version n deed) }
 {
     Ok(match deed {
-        Deed::Starts => Entry::Dispatch { n, v: 0 },
+        Deed::Starts => Entry::Dispatch { n, v: version },
         Deed::Cuts(k) => next_cut(steps, tree.channel(n), n, k),
         Deed::Assigns => Entry::Assign {
             n,
@@ -129,21 +140,33 @@ fn pick(n: Number, index: usize) -> Result<Entry, NoMemory>
     Ok(Entry::Pick { n, k: index as u32 })
 }
 
-/// The plan of a step that starts.
+/// The plan of a step that starts, by its definition in the store as it is now.
 fn plan_by(
     alloc: Global,
-    definitions: &Definitions,
+    store: &Store,
     n: Number,
     deed: Deed,
 ) -> Result<Option<Plan>, NoMemory>
-    ensures { IfOk result (λ plan. plan ≡ plan_by definitions.now n deed) }
+    requires { deed ≡ Starts → is_workingstep (entity_at store.now) n ≡ true }
+    ensures { IfOk result (λ plan. plan ≡ plan_by store.now n deed) }
 {
     match deed {
-        Deed::Starts => match definitions.of(n) {
-            Some(def) => Ok(Some(plan_of(alloc, def)?)),
+        Deed::Starts => match definition_in(store, n) {
+            Some(def) => Ok(Some(plan_of(alloc, &def)?)),
             None => Ok(None),
         },
         _ => Ok(None),
+    }
+}
+
+/// The version of a step that starts.
+fn version_by(edits: &Edits, n: Number, deed: Deed) -> u32
+    requires { deed ≡ Starts → HasVersion edits.now.editing n }
+    ensures { deed ≡ Starts → result ≡ version_now edits.now.editing n }
+{
+    match deed {
+        Deed::Starts => edits.version(n),
+        _ => 0,
     }
 }
 
@@ -186,9 +209,10 @@ fn channel_of(tree: &Tree, entry: &Entry) -> u8
 }
 
 impl RunState {
-    /// The state of a project's run before its first entry, with room for so many.
-    pub fn open(alloc: Global, project: Project, limit: u32) -> Result<RunState, NoMemory>
+    /// The state of a run of a project and a script before its first entry, with room for so many.
+    pub fn open(alloc: Global, project: Project, script: Script, limit: u32) -> Result<RunState, NoMemory>
         ensures project { IfOk result (λ state. state.project ≡ project) }
+        ensures script { IfOk result (λ state. state.script ≡ script) }
         ensures list { IfOk result (λ state. state.list ≡ []) }
         ensures room { IfOk result (λ state. limit ≤ state.room) }
     {
@@ -196,8 +220,10 @@ impl RunState {
         trees_tell();
         trees_are_sound();
         let log = Vec::with_capacity(alloc, limit as usize)?;
-        let definitions = Definitions::new(alloc, project.steps())?;
+        project.sound();
+        tree_steps_are_workingsteps();
         let (store, tree) = project.parts();
+        let edits = Edits::open(alloc, &store, tree.steps(), script)?;
         let frames = Frames::open(alloc, &tree)?;
         let marks = Marks::new(alloc, tree.len())?;
         let vars = opening_vars(alloc, &store, &tree)?;
@@ -205,7 +231,7 @@ impl RunState {
         Ok(RunState {
             store,
             tree,
-            definitions,
+            edits,
             log,
             frames,
             marks,
@@ -214,11 +240,10 @@ impl RunState {
         })
     }
 
-    /// The project's rules are sound, the entries so far are a legal run, and none is of an edit.
+    /// The rules of the project and the script are sound, and the entries so far are a legal run.
     pub fn legal(&self)
-        ensures sound { IsSound (rules_of self.now.project []) }
-        ensures legal { Legal self.now.project [] self.now.list }
-        ensures no_edits { plain self.now.list ≡ self.now.list }
+        ensures sound { IsSound (rules_of self.now.project self.now.script) }
+        ensures legal { Legal self.now.project self.now.script self.now.list }
     {
         project_rules_are_sound();
         let _ = &self.frames;
@@ -226,7 +251,7 @@ impl RunState {
 
     /// The first enabled node of a channel.
     pub fn ready(&self, channel: u8) -> Option<Number>
-        ensures { result ≡ ready (rules_of self.now.project []) self.now.list channel }
+        ensures { result ≡ ready (rules_of self.now.project self.now.script) self.now.list channel }
     {
         trees_tell();
         next_stands_in_preorder();
@@ -242,14 +267,14 @@ impl RunState {
 
     /// Whether the run can go on nowhere.
     pub fn is_over(&self) -> bool
-        ensures { result ≡ is_empty (next_of (rules_of self.now.project []) self.now.list) }
+        ensures { result ≡ is_empty (next_of (rules_of self.now.project self.now.script) self.now.list) }
     {
         self.frames.first(&self.tree, &Any).is_none()
     }
 
     /// Whether each node where the run can go on waits for a mark that isn't set.
     pub fn all_wait(&self) -> bool
-        ensures { result ≡ list_all (waits (rules_of self.now.project []) self.now.list) (next_of (rules_of self.now.project []) self.now.list) }
+        ensures { result ≡ list_all (waits (rules_of self.now.project self.now.script) self.now.list) (next_of (rules_of self.now.project self.now.script) self.now.list) }
     {
         trees_tell();
         next_stands_in_preorder();
@@ -261,10 +286,26 @@ impl RunState {
         self.frames.first(&self.tree, &question).is_none()
     }
 
+    /// Whether each edit is judged.
+    pub fn are_judged(&self) -> bool
+        ensures { result ≡ is_none (slice_get (rules_of self.now.project self.now.script).edits (judged self.now.list)) }
+    {
+        self.edits.are_judged()
+    }
+
+    /// Whether the next edit is due, where the run waits at each node where it can go on, or not.
+    pub fn is_due(&self, waiting: bool) -> bool
+        requires { waiting ≡ list_all (waits (rules_of self.now.project self.now.script) self.now.list) (next_of (rules_of self.now.project self.now.script) self.now.list) }
+        ensures { result ≡ is_due (rules_of self.now.project self.now.script) self.now.list }
+    {
+        stuck_project_waits();
+        self.edits.are_due(self.log.as_slice().len(), waiting)
+    }
+
     /// Whether a node where the run can go on is dispatched next.
     pub fn starts(&self, n: Number) -> bool
-        requires { has (next_of (rules_of self.now.project []) self.now.list) n ≡ true }
-        ensures { result ≡ starts_next (rules_of self.now.project []) self.now.list n }
+        requires { has (next_of (rules_of self.now.project self.now.script) self.now.list) n ≡ true }
+        ensures { result ≡ starts_next (rules_of self.now.project self.now.script) self.now.list n }
     {
         is_start(self.frames.deed(&self.tree, n))
     }
@@ -276,6 +317,14 @@ impl RunState {
         self.tree.channels()
     }
 
+    /// The version of a workingstep of the tree.
+    pub fn version(&self, step: Number) -> u32
+        requires { has (store_steps self.now.project) step ≡ true }
+        ensures { result ≡ version_after self.now.script self.now.project self.now.list step }
+    {
+        self.edits.version(step)
+    }
+
     /// The entries so far.
     pub fn log(&self) -> &[Entry]
         ensures { result.now ≡ self.now.list }
@@ -285,49 +334,86 @@ impl RunState {
 
     /// What a node where the run can go on makes next. It may want memory for the plan of a step that starts.
     pub fn made(&self, alloc: Global, n: Number) -> Result<Made, NoMemory>
-        requires { has (next_of (rules_of self.now.project []) self.now.list) n ≡ true }
-        ensures entry { IfOk result (λ it. it.entry ≡ made (rules_of self.now.project []) self.now.list n) }
-        ensures planned { IfOk result (λ it. IsPlanned self.now.project it.entry it.plan) }
-        ensures in_order { IfOk result (λ it. IsNextOf ((rules_of self.now.project []).tree self.now.list) self.now.list it.entry) }
+        requires { has (next_of (rules_of self.now.project self.now.script) self.now.list) n ≡ true }
+        ensures entry { IfOk result (λ it. it.entry ≡ made (rules_of self.now.project self.now.script) self.now.list n) }
+        ensures planned { IfOk result (λ it. IsPlanned (store_after self.now.script self.now.project self.now.list) it.entry it.plan) }
+        ensures in_order { IfOk result (λ it. IsNextOf ((rules_of self.now.project self.now.script).tree self.now.list) (plain self.now.list) it.entry) }
     {
         trees_tell();
         trees_are_sound();
         next_stands_in_preorder();
         blocks_are_counted();
         what_can_go_on_is_open();
-        rules_without_edits();
         project_rules_are_sound();
         legal_runs();
+        logs_move();
         let deed = self.frames.deed(&self.tree, n);
-        let plan = plan_by(alloc, &self.definitions, n, deed)?;
-        let entry = entry_by(&self.tree, &self.steps, &self.vars, n, deed)?;
+        let plan = plan_by(alloc, self.edits.store(&self.store), n, deed)?;
+        let version = version_by(&self.edits, n, deed);
+        let entry = entry_by(&self.tree, &self.steps, &self.vars, version, n, deed)?;
         Ok(Made { entry, plan })
     }
 
-    /// Goes on with an entry that fits.
+    /// Goes on with an entry of a node that fits.
     pub fn follow(&mut self, entry: Entry, plan: Option<Plan>)
         requires room { length self.old.list < self.old.room }
-        requires fits { Fits (rules_of self.old.project []) self.old.list entry }
-        requires planned { IsPlanned self.old.project entry plan }
-        requires in_order { IsNextOf ((rules_of self.old.project []).tree self.old.list) self.old.list entry }
+        requires node { is_plain entry ≡ true }
+        requires fits { Fits (rules_of self.old.project self.old.script) self.old.list entry }
+        requires planned { IsPlanned (store_after self.old.script self.old.project self.old.list) entry plan }
+        requires in_order { IsNextOf ((rules_of self.old.project self.old.script).tree self.old.list) (plain self.old.list) entry }
         ensures { self.new ≡ record self.old { list = self.old.list ++ entry ∷ [] } }
     {
         trees_tell();
         trees_are_sound();
         next_stands_in_preorder();
-        rules_without_edits();
         project_rules_are_sound();
         project_rules_move();
         legal_runs();
+        logs_move();
         blocks_are_counted();
         what_is_offered_follows();
         places_are_found();
         self.tree.channel_table();
         let channel = channel_of(&self.tree, &entry);
         self.steps.follow(channel, &entry, plan);
+        self.edits.follow(&entry);
         marks::follow(&mut self.marks, &self.tree, &entry);
         variables::follow(&mut self.vars, &self.tree, &entry);
         self.frames.advance(&self.tree, &entry);
         self.log.push_reserved(entry);
+    }
+
+    /// The verdict on the next edit, which is due. It changes nothing.
+    pub fn judge<L: Ledger>(
+        &self,
+        alloc: Global,
+        steps: &mut Steps<L>,
+    ) -> Result<Verdict, NoMemory>
+        requires due { is_due (rules_of self.now.project self.now.script) self.now.list ≡ true }
+        ensures verdict { IfOk result (λ verdict. verdict ≡ (rules_of self.now.project self.now.script).verdict self.now.list (judged self.now.list)) }
+        ensures ticks { steps.new ≤ steps.old + reached_by self.now.project self.now.script self.now.list (judged self.now.list) }
+    {
+        trees_tell();
+        self.edits.judge(alloc, &self.tree, steps)
+    }
+
+    /// Goes on with the verdict on the next edit, which is due, and puts the edit where it is accepted.
+    ///
+    /// # Errors
+    /// `NoMemory` where there is none for the edit; all is then as it was.
+    pub fn settle(&mut self, alloc: Global, verdict: Verdict) -> Result<(), NoMemory>
+        requires room { length self.old.list < self.old.room }
+        requires due { is_due (rules_of self.old.project self.old.script) self.old.list ≡ true }
+        requires verdict { verdict ≡ (rules_of self.old.project self.old.script).verdict self.old.list (judged self.old.list) }
+        ensures ok { OnOk result (self.new ≡ record self.old { list = self.old.list ++ Edit (judged self.old.list) verdict ∷ [] }) }
+        ensures err { OnErr result (self.new ≡ self.old) }
+    {
+        project_rules_move();
+        legal_runs();
+        logs_move();
+        let i = self.edits.judged;
+        self.edits.settle(alloc, verdict)?;
+        self.log.push_reserved(Entry::Edit { i, verdict });
+        Ok(())
     }
 }

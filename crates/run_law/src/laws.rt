@@ -122,6 +122,7 @@ pub fn logs_move()
     ensures stage { (t : List Entry) (x : Entry) (n : ℕ) → stage n (t ++ x ∷ []) ≡ stage_step n (stage n t) x }
     ensures node { (t : List Entry) (x : Entry) (n : ℕ) → number_of x ≡ Some n → (plain (t ++ x ∷ []) ≡ plain t ++ x ∷ []) × (judged (t ++ x ∷ []) ≡ judged t) }
     ensures edit { (t : List Entry) (i : ℕ) (w : Verdict) → (plain (t ++ Edit i w ∷ []) ≡ plain t) × (judged (t ++ Edit i w ∷ []) ≡ judged t + 1) }
+    ensures plain_stage { (t : List Entry) (n : ℕ) → stage n (plain t) ≡ stage n t }
 {}
 
 /// A run of a tree without loops has only so many entries: three for each node, and for each workingstep those of the longest path with its

@@ -183,7 +183,8 @@ fn after(rt: &impl Abort, alloc: Global, edit: &[u8]) -> Result<Result<Tree, Tre
     let store = store(rt, alloc, PROJECT)?;
     let old = build(alloc, &store)?;
     let items = items(rt, alloc, edit)?;
-    Ok(rebuild(alloc, &Overlay::new(&store, &items), &old))
+    let overlay = Overlay::new(alloc, &store, &items)?;
+    Ok(rebuild(alloc, &overlay, &old))
 }
 
 /// The main workplan is put with the other channel, and without the if: the channels keep their numbers.

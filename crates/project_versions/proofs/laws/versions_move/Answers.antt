@@ -1,4 +1,5 @@
-use Rattle.project_versions.proofs.VersionLemmas.{store_more, version_more, found_all}
+use Rattle.project_store.proofs.PuttingLemmas.{found_all}
+use Rattle.project_versions.proofs.VersionLemmas.{store_more, version_more}
 use Rattle.project_versions.proofs.laws.versions_move.Goals as goal
 
 pub returns-clause-store : goal.returns-clause-store

@@ -1,5 +1,6 @@
 use Rattle.std.specs.Prelude.{None}
 use Rattle.trace_law.specs.State.{marked, dispatched}
+use Rattle.run_law.proofs.StuckLemmas.{stage_plain}
 use Rattle.run_law.proofs.MadeLemmas.{stage_snoc}
 use Rattle.run_law.proofs.MoveLemmas.{told_more, node_more, edit_more}
 use Rattle.run_law.proofs.laws.logs_move.Goals as goal
@@ -18,3 +19,6 @@ returns-clause-node c = node_more
 
 pub returns-clause-edit : goal.returns-clause-edit
 returns-clause-edit c = edit_more
+
+pub returns-clause-plain_stage : goal.returns-clause-plain_stage
+returns-clause-plain_stage c = λ t n. stage_plain n None t

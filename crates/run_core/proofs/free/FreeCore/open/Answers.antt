@@ -19,6 +19,7 @@ invariant_of-result c =
 pub returns : goal.returns
 returns c =
     let p = c.in_ok-state.ensures.project in
+    let s = c.in_ok-state.ensures.script in
     let z = c.in_ok-state.ensures.list in
     let w = c.in_ok-actors.ensures.items in
-    λ i. record { project = p i; limit = c.args.limit; log = z i; actors = w i }
+    λ i. record { project = p i; script = s i; limit = c.args.limit; log = z i; actors = w i }

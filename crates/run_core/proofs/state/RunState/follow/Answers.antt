@@ -14,21 +14,27 @@ use Rattle.trace_law.specs.Of.{number_of, has_some}
 use Rattle.trace_law.specs.Part.{Part}
 use Rattle.trace_law.specs.Next.{next}
 use Rattle.run_log.specs.declared.entry.Entry.{Entry}
-use Rattle.run_law.specs.Fits.{Fits}
+use Rattle.run_law.specs.Fits.{Fits, plain}
 use Rattle.run_frames.specs.Standing.{IsAt, IsNextOf}
 use Rattle.trace_law.specs.Below.{tree_in}
 use Rattle.project_law.specs.ProjectRules.{rules_of}
+use Rattle.entity_types.specs.declared.edit.Edit.{Edit as ScriptEdit}
+use Rattle.project_law.specs.Script.{store_after}
 use Rattle.run_core.specs.Kept.{State, IsState, IsPlanned}
+use Rattle.run_core.specs.Edits.{AreKept}
 use Rattle.run_core.proofs.QuestionLemmas.{filter_has}
 use Rattle.run_core.proofs.KindLemmas.{store_done_by, works_has}
 use Rattle.run_core.proofs.FollowLemmas.{is_of_node, IsOfNode}
-use Rattle.run_core.proofs.StateLemmas.{Entered, state_follows, follows_is, channel_small}
+use Rattle.trace_law.specs.Offer.{offer, IsOffered}
+use Rattle.run_core.proofs.EditLemmas.{step_has_version}
+use Rattle.run_core.proofs.StateLemmas.{started_kind, Entered, state_follows, follows_is, channel_small}
 use Rattle.run_core.proofs.state.RunState.follow.Goals as goal
 
 pub follow-requires : goal.follow-requires
 follow-requires c =
     let p = c.self.inside.store in
-    let k = c.self.invariant in
+    let s = c.self.inside.edits.script in
+    let k = c.self.invariant.0 in
     let channels = c.channel_table.result.now in
     let small = channel_small c.self.inside.tree (number_of c.args.entry) channels
     (λ n. subst (λ (m : ℕ). m < max 1 (length channels)) (sym (c.trees_tell.ensures.channels nothing_seen (entity_at p) (main_of p) n c.self.inside.tree k.tree_is))
@@ -39,53 +45,83 @@ follow-requires c =
 pub invariant_of-self : goal.invariant_of-self
 invariant_of-self c =
     let p = c.self.inside.store in
+    let s = c.self.inside.edits.script in
     let t = c.self.inside.log.items in
-    let k = c.self.invariant in
+    let k = c.self.invariant.0 in
     let x = c.args.entry in
     let e = tree_of (entity_at p) (main_of p) in
     let d = c.trees_are_sound.ensures.distinct nothing_seen (entity_at p) (main_of p) k.tree_is.no_fault in
-    let fits : Fits (rules_of p []) t x = subst (λ (v : State). Fits (rules_of v.project []) v.list x) (sym c.self.view_is) c.requires.fits in
-    let planned : IsPlanned p x c.args.plan = subst (λ (v : State). IsPlanned v.project x c.args.plan) (sym c.self.view_is) c.requires.planned in
-    let of_node : IsOfNode (rules_of p []) t x = is_of_node (rules_of p []) t x (c.rules_without_edits.ensures.due p t) fits in
+    let fits : Fits (rules_of p s) t x = subst (λ (v : State). Fits (rules_of v.project v.script) v.list x) (sym c.self.view_is) c.requires.fits in
+    let planned : IsPlanned (store_after s p t) x c.args.plan = subst (λ (v : State). IsPlanned (store_after v.script v.project v.list) x c.args.plan) (sym c.self.view_is) c.requires.planned in
+    let of_node : IsOfNode (rules_of p s) t x = is_of_node (rules_of p s) t x c.requires.node fits in
     let n = of_node.n in
-    let sound = c.project_rules_are_sound.ensures.sound p [] k.tree_is.no_fault in
-    let part : Part e (t ++ x ∷ []) = subst (λ (u : List Entry). Part e (u ++ x ∷ [])) k.no_edits of_node.fits.goes_on in
-    let off = c.what_is_offered_follows.ensures.offered e t x n d part of_node.number in
-    let goes : has (next e t) n ≡ true = subst (λ (o : Option ℕ). has_some (next e t) o ≡ true) of_node.number off.0 in
-    let here : has (exec.nodes e) n ≡ true = filter_has (has (next e t)) (exec.nodes e) n (subst (λ (ns : List ℕ). has ns n ≡ true) (c.next_stands_in_preorder.ensures.order e t d) goes) in
-    let done = store_done_by (entity_at p) (main_of p) t n here in
-    let entered : Entered p c.self.inside.tree t x n c.args.plan = record {
+    let sound = c.project_rules_are_sound.ensures.sound p s k.tree_is.no_fault in
+    let u = plain t in
+    let part : Part e (u ++ x ∷ []) = of_node.fits.goes_on in
+    let off = c.what_is_offered_follows.ensures.offered e u x n d part of_node.number in
+    let goes : has (next e u) n ≡ true = subst (λ (o : Option ℕ). has_some (next e u) o ≡ true) of_node.number off.0 in
+    let here : has (exec.nodes e) n ≡ true = filter_has (has (next e u)) (exec.nodes e) n (subst (λ (ns : List ℕ). has ns n ≡ true) (c.next_stands_in_preorder.ensures.order e (plain t) d) goes) in
+    let done = store_done_by (entity_at p) (main_of p) u n here in
+    let entered : Entered p s c.self.inside.tree t x n c.args.plan = record {
       number = of_node.number;
-      legal = c.legal_runs.ensures.more (rules_of p []) t x k.legal fits;
+      legal = c.legal_runs.ensures.more (rules_of p s) t x k.legal fits;
       said = c.trees_tell.ensures.said nothing_seen (entity_at p) (main_of p) n c.self.inside.tree k.tree_is
           ∙ ap (λ (b : Bool). if b then Some (said_for (entity_at p) (kind_at (entity_at p n)) (entity_at p n)) else None) here;
       offered = off.1;
       done = done;
       numbered = λ m place f. c.places_are_found.ensures.numbered c.self.inside.tree.nodes m place f;
-      vars = λ v. c.rules_without_edits.ensures.vars p t x v;
-      follows = follows_is p t x n c.args.plan of_node.number of_node.fits off.1 done
+      vars = λ v. c.project_rules_move.ensures.vars p s t x v;
+      follows = follows_is p s t x n c.args.plan of_node.number of_node.fits off.1 done
           (λ h. works_has (entity_at p) (main_of p) n (c.trees_are_sound.ensures.nodes (entity_at p) (main_of p)) (c.trees_are_sound.ensures.steps (entity_at p) (main_of p)) here h)
-          (λ w. sound.steps t n k.legal w) (λ j f. c.blocks_are_counted.ensures.offered e t n j f)
-          (λ m f. c.project_rules_move.ensures.kept p [] t x m f) (λ m v. c.rules_without_edits.ensures.path p t m v) planned;
+          (λ w. sound.steps t n k.legal w) (λ j f. sym (c.logs_move.ensures.plain_stage t n) ∙ c.blocks_are_counted.ensures.offered e u n j f)
+          (λ m f. c.project_rules_move.ensures.kept p s t x m f) (λ m v. c.project_rules_move.ensures.dispatched p s t m v) planned;
     } in
-    let held : Part (tree_in c.self.inside.tree) (t ++ x ∷ []) = subst (λ (y : Exec). Part y (t ++ x ∷ [])) (sym k.tree_is.held) part in
-    let now_at : IsAt c.self.inside.tree.nodes c.advance.new.self (t ++ x ∷ []) = c.advance.ensures t k.at held in
-    let kept = state_follows p c.self.inside.tree c.self.inside.definitions c.self.inside.frames c.advance.new.self t c.self.inside.marks c.follow-2.new.marks c.self.inside.vars c.follow-3.new.vars c.self.inside.steps c.follow.new.self
-    x n c.args.plan c.channel_of-channel.result k entered now_at c.follow-2.ensures.count c.follow-2.ensures.flags c.follow-3.ensures
+    let held : Part (tree_in c.self.inside.tree) (u ++ x ∷ []) = subst (λ (y : Exec). Part y (u ++ x ∷ [])) (sym k.tree_is.held) part in
+    let now_at : IsAt c.self.inside.tree.nodes c.advance.new.self (u ++ x ∷ []) = c.advance.ensures u k.at held in
+    let kept = state_follows p s c.self.inside.tree c.self.inside.frames c.advance.new.self t c.self.inside.marks c.follow-3.new.marks c.self.inside.vars c.follow-4.new.vars c.self.inside.steps c.follow.new.self
+    x n c.args.plan c.channel_of-channel.result k entered now_at c.follow-3.ensures.count c.follow-3.ensures.flags c.follow-4.ensures
     (c.channel_of-channel.ensures ∙ (ap (λ (o : Option ℕ). option_map_or (λ m. channel_in c.self.inside.tree.nodes m) o 0) of_node.number
     ∙ c.trees_tell.ensures.channels nothing_seen (entity_at p) (main_of p) n c.self.inside.tree k.tree_is))
     c.follow.ensures in
-    subst (λ (u : List Entry). IsState p c.self.inside.tree c.self.inside.definitions c.advance.new.self u c.follow-2.new.marks c.follow-3.new.vars c.follow.new.self) (sym c.push_reserved.ensures.items) kept
+    let logged : c.push_reserved.new.self.items ≡ t ++ x ∷ [] = c.push_reserved.ensures.items in
+    (
+      subst (λ (r : List ScriptEdit). IsState p r c.self.inside.tree c.advance.new.self c.push_reserved.new.self.items c.follow-3.new.marks c.follow-4.new.vars c.follow.new.self) (sym c.follow-2.ensures.script)
+      (subst (λ (w : List Entry). IsState p s c.self.inside.tree c.advance.new.self w c.follow-3.new.marks c.follow-4.new.vars c.follow.new.self) (sym logged) kept),
+      subst (λ (w : List Entry). AreKept p w c.follow-2.new.self) (sym logged) (c.follow-2.ensures.kept p t c.self.invariant.1),
+    )
 
 pub advance-requires : goal.advance-requires
 advance-requires c =
     let p = c.self.inside.store in
+    let s = c.self.inside.edits.script in
     let t = c.self.inside.log.items in
-    let k = c.self.invariant in
+    let k = c.self.invariant.0 in
     let x = c.args.entry in
     let e = tree_of (entity_at p) (main_of p) in
-    let fits : Fits (rules_of p []) t x = subst (λ (v : State). Fits (rules_of v.project []) v.list x) (sym c.self.view_is) c.requires.fits in
-    let of_node : IsOfNode (rules_of p []) t x = is_of_node (rules_of p []) t x (c.rules_without_edits.ensures.due p t) fits in
-    let part : Part e (t ++ x ∷ []) = subst (λ (u : List Entry). Part e (u ++ x ∷ [])) k.no_edits of_node.fits.goes_on in
-    let ordered : IsNextOf e t x = subst (λ (v : State). IsNextOf ((rules_of v.project []).tree v.list) v.list x) (sym c.self.view_is) c.requires.in_order in
-    (t, k.at, subst (λ (y : Exec). Part y (t ++ x ∷ [])) (sym k.tree_is.held) part, subst (λ (y : Exec). IsNextOf y t x) (sym k.tree_is.held) ordered)
+    let fits : Fits (rules_of p s) t x = subst (λ (v : State). Fits (rules_of v.project v.script) v.list x) (sym c.self.view_is) c.requires.fits in
+    let of_node : IsOfNode (rules_of p s) t x = is_of_node (rules_of p s) t x c.requires.node fits in
+    let u = plain t in
+    let part : Part e (u ++ x ∷ []) = of_node.fits.goes_on in
+    let ordered : IsNextOf e u x = subst (λ (v : State). IsNextOf ((rules_of v.project v.script).tree v.list) (plain v.list) x) (sym c.self.view_is) c.requires.in_order in
+    (u, k.at, subst (λ (y : Exec). Part y (u ++ x ∷ [])) (sym k.tree_is.held) part, subst (λ (y : Exec). IsNextOf y u x) (sym k.tree_is.held) ordered)
+
+pub follow-requires-2-clause-known : goal.follow-requires-2-clause-known
+follow-requires-2-clause-known c = λ n v f.
+    let p = c.self.inside.store in
+    let s = c.self.inside.edits.script in
+    let t = c.self.inside.log.items in
+    let k = c.self.invariant.0 in
+    let x = c.args.entry in
+    let e = tree_of (entity_at p) (main_of p) in
+    let u = plain t in
+    let d = c.trees_are_sound.ensures.distinct nothing_seen (entity_at p) (main_of p) k.tree_is.no_fault in
+    let fits : Fits (rules_of p s) t x = subst (λ (w : State). Fits (rules_of w.project w.script) w.list x) (sym c.self.view_is) c.requires.fits in
+    let of_node : IsOfNode (rules_of p s) t x = is_of_node (rules_of p s) t x c.requires.node fits in
+    let number : number_of x ≡ Some n = ap number_of f in
+    let off = c.what_is_offered_follows.ensures.offered e u x n d of_node.fits.goes_on number in
+    let goes : has (next e u) n ≡ true = subst (λ (o : Option ℕ). has_some (next e u) o ≡ true) number off.0 in
+    let here : has (exec.nodes e) n ≡ true = filter_has (has (next e u)) (exec.nodes e) n (subst (λ (ns : List ℕ). has ns n ≡ true) (c.next_stands_in_preorder.ensures.order e u d) goes) in
+    let kind = started_kind (offer e u n) n n v (kind_at (entity_at p n)) (subst (IsOffered (offer e u n) n) f off.1) (store_done_by (entity_at p) (main_of p) u n here) in
+    let steps = c.trees_are_sound.ensures.steps (entity_at p) (main_of p) in
+    let works = works_has (entity_at p) (main_of p) n (c.trees_are_sound.ensures.nodes (entity_at p) (main_of p)) steps here kind in
+    step_has_version p t c.self.inside.edits n c.self.invariant.1 (subst (λ (ns : List ℕ). has ns n ≡ true) steps works)

@@ -3,7 +3,6 @@ use Rattle.std.specs.Prelude.{Option, Some, None, Ok, IsSomeAnd, Bool, if◌then
 use Rattle.run_log.specs.declared.entry.Entry.{Entry}
 use Rattle.trace_law.specs.Part.{Part}
 use Rattle.run_frames.specs.declared.deed.Deed.TheVariants as deeds
-use Rattle.run_core.specs.Definitions.{def_at}
 use Rattle.run_core.specs.Kinds.{IsDoneBy}
 use Rattle.path_blocks.specs.declared.def.Def.{Def}
 use Rattle.project_store.specs.Entities.{entity_at}
@@ -27,75 +26,127 @@ use Rattle.run_frames.specs.Standing.{IsNextOf}
 use Rattle.trace_law.specs.Below.{tree_in}
 use Rattle.run_core.proofs.QuestionLemmas.{told, filter_has}
 use Rattle.run_core.proofs.KindLemmas.{store_done_by, works_has}
-use Rattle.run_core.proofs.MadeLemmas.{Asked, made_is, planned_is, in_order_is}
+use Rattle.run_core.specs.State.{plan_by}
+use Rattle.project_law.specs.Script.{store_after}
+use Rattle.edit_rules.specs.Faults.{has_def}
+use Rattle.step_def.specs.Condition.{is_workingstep}
+use Rattle.entity_types.specs.declared.entity.Entity.{Entity}
+use Rattle.run_law.specs.Fits.{plain}
+use Rattle.trace_law.specs.Offer as offers
+use Rattle.run_core.proofs.EditLemmas.{step_has_version}
+use Rattle.run_core.proofs.MadeLemmas.{Asked, made_is, planned_is, in_order_is, starter_is, started_by}
 use Rattle.run_core.proofs.state.RunState.made.Goals as goal
 
 pub returns-clause-entry : goal.returns-clause-entry
 returns-clause-entry c =
     let p = c.self.inside.store in
+    let s = c.self.inside.edits.script in
     let t = c.self.inside.log.items in
-    let k = c.self.invariant in
+    let k = c.self.invariant.0 in
     let e = tree_of (entity_at p) (main_of p) in
     let d = c.trees_are_sound.ensures.distinct nothing_seen (entity_at p) (main_of p) k.tree_is.no_fault in
-    let tells = told p c.self.inside.tree t k.tree_is k.no_edits (λ n. c.trees_tell.ensures.channels nothing_seen (entity_at p) (main_of p) n c.self.inside.tree k.tree_is)
-    (λ n. c.trees_tell.ensures.roles nothing_seen (entity_at p) (main_of p) n c.self.inside.tree k.tree_is) (c.next_stands_in_preorder.ensures.order e t d) in
-    let is_next : has (next_of (rules_of p []) t) c.args.n ≡ true = subst (λ (v : State). has (next_of (rules_of v.project []) v.list) c.args.n ≡ true) (sym c.self.view_is) c.requires in
-    let goes : has (next e t) c.args.n ≡ true = subst (λ (u : List Entry). has (next e u) c.args.n ≡ true) k.no_edits is_next in
-    let there : has (next (tree_in c.self.inside.tree) t) c.args.n ≡ true = subst (λ (x : Exec). has (next x t) c.args.n ≡ true) (sym k.tree_is.held) goes in
+    let tells = told p s c.self.inside.tree t k.tree_is (λ n. c.trees_tell.ensures.channels nothing_seen (entity_at p) (main_of p) n c.self.inside.tree k.tree_is)
+    (λ n. c.trees_tell.ensures.roles nothing_seen (entity_at p) (main_of p) n c.self.inside.tree k.tree_is) (c.next_stands_in_preorder.ensures.order e (plain t) d) in
+    let is_next : has (next_of (rules_of p s) t) c.args.n ≡ true = subst (λ (v : State). has (next_of (rules_of v.project v.script) v.list) c.args.n ≡ true) (sym c.self.view_is) c.requires in
+    let u = plain t in
+    let goes : has (next e u) c.args.n ≡ true = is_next in
+    let there : has (next (tree_in c.self.inside.tree) u) c.args.n ≡ true = subst (λ (x : Exec). has (next x u) c.args.n ≡ true) (sym k.tree_is.held) goes in
     let here : has (exec.nodes e) c.args.n ≡ true = tells.within c.args.n goes in
-    let part : Part e t = subst (Part e) k.no_edits (c.legal_runs.ensures.part (rules_of p []) t (c.project_rules_are_sound.ensures.sound p [] k.tree_is.no_fault) k.legal) in
-    let asked : Asked p t c.self.inside.tree c.self.inside.vars c.self.inside.steps c.args.n = record {
+    let does : deed_offer c.deed-deed.result ≡ offer e u c.args.n = c.deed-deed.ensures u k.at there ∙ ap (λ (x : Exec). offer x u c.args.n) k.tree_is.held in
+    let starts : offer e u c.args.n ≡ offers.Starts → c.deed-deed.result ≡ deeds.Starts = λ f. started_by c.deed-deed.result (does ∙ f) in
+    let part : Part e u = c.legal_runs.ensures.part (rules_of p s) t (c.project_rules_are_sound.ensures.sound p s k.tree_is.no_fault) k.legal in
+    let asked : Asked p s t c.self.inside.tree c.self.inside.vars c.self.inside.steps c.version_by-version.result c.args.n = record {
       tells = tells;
       kept = k.steps_are;
       vars_are = k.vars_are;
-      version = c.rules_without_edits.ensures.version p t c.args.n;
+      version_is = λ f. sym (c.version_by-version.ensures (starts f) ∙ c.self.invariant.1.versions_are c.args.n (starter_is p u c.args.n c.deed-deed.result (c.trees_are_sound.ensures.nodes (entity_at p) (main_of p)) (c.trees_are_sound.ensures.steps (entity_at p) (main_of p)) here does (starts f)));
       said = c.trees_tell.ensures.said nothing_seen (entity_at p) (main_of p) c.args.n c.self.inside.tree k.tree_is
           ∙ ap (λ (b : Bool). if b then Some (said_for (entity_at p) (kind_at (entity_at p c.args.n)) (entity_at p c.args.n)) else None) here;
-      done_by = store_done_by (entity_at p) (main_of p) t c.args.n here;
-      counted = λ j f. c.blocks_are_counted.ensures.offered e t c.args.n j f;
-      free = c.what_can_go_on_is_open.ensures e t c.args.n d (c.trees_are_sound.ensures.choices nothing_seen (entity_at p) (main_of p) k.tree_is.no_fault) part goes;
+      done_by = store_done_by (entity_at p) (main_of p) u c.args.n here;
+      counted = λ j f. sym (c.logs_move.ensures.plain_stage t c.args.n) ∙ c.blocks_are_counted.ensures.offered e u c.args.n j f;
+      free = c.what_can_go_on_is_open.ensures e u c.args.n d (c.trees_are_sound.ensures.choices nothing_seen (entity_at p) (main_of p) k.tree_is.no_fault) part goes;
     } in
-    subst (λ (v : State). c.in_ok-entry.entry ≡ made (rules_of v.project []) v.list c.args.n) c.self.view_is
-    (c.in_ok-entry.ensures ∙ made_is p t c.self.inside.tree c.self.inside.vars c.self.inside.steps c.args.n asked c.deed-deed.result (c.deed-deed.ensures t k.at there))
+    subst (λ (v : State). c.in_ok-entry.entry ≡ made (rules_of v.project v.script) v.list c.args.n) c.self.view_is
+    (c.in_ok-entry.ensures ∙ made_is p s t c.self.inside.tree c.self.inside.vars c.self.inside.steps c.version_by-version.result c.args.n asked c.deed-deed.result (c.deed-deed.ensures u k.at there))
 
 pub returns-clause-planned : goal.returns-clause-planned
 returns-clause-planned c =
     let p = c.self.inside.store in
+    let s = c.self.inside.edits.script in
     let t = c.self.inside.log.items in
-    let k = c.self.invariant in
+    let k = c.self.invariant.0 in
     let e = tree_of (entity_at p) (main_of p) in
     let d = c.trees_are_sound.ensures.distinct nothing_seen (entity_at p) (main_of p) k.tree_is.no_fault in
-    let is_next : has (next_of (rules_of p []) t) c.args.n ≡ true = subst (λ (v : State). has (next_of (rules_of v.project []) v.list) c.args.n ≡ true) (sym c.self.view_is) c.requires in
-    let goes : has (next e t) c.args.n ≡ true = subst (λ (u : List Entry). has (next e u) c.args.n ≡ true) k.no_edits is_next in
-    let there : has (next (tree_in c.self.inside.tree) t) c.args.n ≡ true = subst (λ (x : Exec). has (next x t) c.args.n ≡ true) (sym k.tree_is.held) goes in
-    let here : has (exec.nodes e) c.args.n ≡ true = filter_has (has (next e t)) (exec.nodes e) c.args.n (subst (λ (ns : List ℕ). has ns c.args.n ≡ true) (c.next_stands_in_preorder.ensures.order e t d) goes) in
-    let does : deed_offer c.deed-deed.result ≡ offer e t c.args.n = c.deed-deed.ensures t k.at there ∙ ap (λ (x : Exec). offer x t c.args.n) k.tree_is.held in
-    let starts : c.deed-deed.result ≡ deeds.Starts → IsSomeAnd (def_at c.self.inside.definitions c.args.n) (λ def. def_of (entity_at p) c.args.n ≡ Ok def) =
-    λ f. k.defined c.args.n (works_has (entity_at p) (main_of p) c.args.n (c.trees_are_sound.ensures.nodes (entity_at p) (main_of p)) (c.trees_are_sound.ensures.steps (entity_at p) (main_of p)) here
-    (subst (λ (o : Offer). IsDoneBy o (kind_at (entity_at p c.args.n))) (sym does ∙ ap deed_offer f) (store_done_by (entity_at p) (main_of p) t c.args.n here))) in
-    subst (λ (v : State). IsPlanned v.project c.in_ok-entry.entry c.in_ok-plan.plan) c.self.view_is
-    (λ m v f. subst (λ (o : Option Def). IsSomeAnd o (λ def. def_of (entity_at p) m ≡ Ok def)) (sym c.in_ok-plan.ensures)
-    (planned_is p c.self.inside.tree c.self.inside.definitions c.self.inside.steps (value_at c.self.inside.vars) c.args.n c.deed-deed.result starts m v (sym c.in_ok-entry.ensures ∙ f)))
+    let is_next : has (next_of (rules_of p s) t) c.args.n ≡ true = subst (λ (v : State). has (next_of (rules_of v.project v.script) v.list) c.args.n ≡ true) (sym c.self.view_is) c.requires in
+    let u = plain t in
+    let goes : has (next e u) c.args.n ≡ true = is_next in
+    let there : has (next (tree_in c.self.inside.tree) u) c.args.n ≡ true = subst (λ (x : Exec). has (next x u) c.args.n ≡ true) (sym k.tree_is.held) goes in
+    let here : has (exec.nodes e) c.args.n ≡ true = filter_has (has (next e u)) (exec.nodes e) c.args.n (subst (λ (ns : List ℕ). has ns c.args.n ≡ true) (c.next_stands_in_preorder.ensures.order e (plain t) d) goes) in
+    let does : deed_offer c.deed-deed.result ≡ offer e u c.args.n = c.deed-deed.ensures u k.at there ∙ ap (λ (x : Exec). offer x u c.args.n) k.tree_is.held in
+    let now = store_after s p t in
+    let same : c.store.result.now ≡ now = c.store.ensures ∙ c.self.invariant.1.store_is in
+    let starts : c.deed-deed.result ≡ deeds.Starts → has_def now c.args.n ≡ true =
+    λ f. c.self.invariant.1.defined c.args.n (starter_is p u c.args.n c.deed-deed.result (c.trees_are_sound.ensures.nodes (entity_at p) (main_of p)) (c.trees_are_sound.ensures.steps (entity_at p) (main_of p)) here does f) in
+    subst (λ (v : State). IsPlanned (store_after v.script v.project v.list) c.in_ok-entry.entry c.in_ok-plan.plan) c.self.view_is
+    (λ m v f. subst (λ (o : Option Def). IsSomeAnd o (λ def. def_of (entity_at now) m ≡ Ok def)) (sym (c.in_ok-plan.ensures ∙ ap (λ (store : List Entity). plan_by store c.args.n c.deed-deed.result) same))
+    (planned_is now c.self.inside.tree c.self.inside.steps (value_at c.self.inside.vars) c.version_by-version.result c.args.n c.deed-deed.result starts m v (sym c.in_ok-entry.ensures ∙ f)))
 
 pub returns-clause-in_order : goal.returns-clause-in_order
 returns-clause-in_order c =
     let p = c.self.inside.store in
+    let s = c.self.inside.edits.script in
     let t = c.self.inside.log.items in
-    let k = c.self.invariant in
+    let k = c.self.invariant.0 in
     let e = tree_of (entity_at p) (main_of p) in
-    let is_next : has (next_of (rules_of p []) t) c.args.n ≡ true = subst (λ (v : State). has (next_of (rules_of v.project []) v.list) c.args.n ≡ true) (sym c.self.view_is) c.requires in
-    let goes : has (next e t) c.args.n ≡ true = subst (λ (u : List Entry). has (next e u) c.args.n ≡ true) k.no_edits is_next in
-    let there : has (next (tree_in c.self.inside.tree) t) c.args.n ≡ true = subst (λ (x : Exec). has (next x t) c.args.n ≡ true) (sym k.tree_is.held) goes in
-    subst (λ (v : State). IsNextOf ((rules_of v.project []).tree v.list) v.list c.in_ok-entry.entry) c.self.view_is
-    (λ m j f. in_order_is c.self.inside.tree t c.self.inside.steps (value_at c.self.inside.vars) e c.args.n c.deed-deed.result
-    (c.deed-deed.ensures t k.at there ∙ ap (λ (x : Exec). offer x t c.args.n) k.tree_is.held) m j (sym c.in_ok-entry.ensures ∙ f))
+    let is_next : has (next_of (rules_of p s) t) c.args.n ≡ true = subst (λ (v : State). has (next_of (rules_of v.project v.script) v.list) c.args.n ≡ true) (sym c.self.view_is) c.requires in
+    let u = plain t in
+    let goes : has (next e u) c.args.n ≡ true = is_next in
+    let there : has (next (tree_in c.self.inside.tree) u) c.args.n ≡ true = subst (λ (x : Exec). has (next x u) c.args.n ≡ true) (sym k.tree_is.held) goes in
+    subst (λ (v : State). IsNextOf ((rules_of v.project v.script).tree v.list) (plain v.list) c.in_ok-entry.entry) c.self.view_is
+    (λ m j f. in_order_is c.self.inside.tree u c.self.inside.steps (value_at c.self.inside.vars) c.version_by-version.result e c.args.n c.deed-deed.result
+    (c.deed-deed.ensures u k.at there ∙ ap (λ (x : Exec). offer x u c.args.n) k.tree_is.held) m j (sym c.in_ok-entry.ensures ∙ f))
 
 pub deed-deed-requires : goal.deed-deed-requires
 deed-deed-requires c =
     let p = c.self.inside.store in
+    let s = c.self.inside.edits.script in
     let t = c.self.inside.log.items in
-    let k = c.self.invariant in
+    let k = c.self.invariant.0 in
     let e = tree_of (entity_at p) (main_of p) in
-    let is_next : has (next_of (rules_of p []) t) c.args.n ≡ true = subst (λ (v : State). has (next_of (rules_of v.project []) v.list) c.args.n ≡ true) (sym c.self.view_is) c.requires in
-    let goes : has (next e t) c.args.n ≡ true = subst (λ (u : List Entry). has (next e u) c.args.n ≡ true) k.no_edits is_next in
-    (t, k.at, subst (λ (x : Exec). has (next x t) c.args.n ≡ true) (sym k.tree_is.held) goes)
+    let is_next : has (next_of (rules_of p s) t) c.args.n ≡ true = subst (λ (v : State). has (next_of (rules_of v.project v.script) v.list) c.args.n ≡ true) (sym c.self.view_is) c.requires in
+    let u = plain t in
+    let goes : has (next e u) c.args.n ≡ true = is_next in
+    (u, k.at, subst (λ (x : Exec). has (next x u) c.args.n ≡ true) (sym k.tree_is.held) goes)
+
+pub plan_by-requires : goal.plan_by-requires
+plan_by-requires c =
+    let p = c.self.inside.store in
+    let s = c.self.inside.edits.script in
+    let t = c.self.inside.log.items in
+    let k = c.self.invariant.0 in
+    let e = tree_of (entity_at p) (main_of p) in
+    let d = c.trees_are_sound.ensures.distinct nothing_seen (entity_at p) (main_of p) k.tree_is.no_fault in
+    let is_next : has (next_of (rules_of p s) t) c.args.n ≡ true = subst (λ (v : State). has (next_of (rules_of v.project v.script) v.list) c.args.n ≡ true) (sym c.self.view_is) c.requires in
+    let u = plain t in
+    let goes : has (next e u) c.args.n ≡ true = is_next in
+    let there : has (next (tree_in c.self.inside.tree) u) c.args.n ≡ true = subst (λ (x : Exec). has (next x u) c.args.n ≡ true) (sym k.tree_is.held) goes in
+    let here : has (exec.nodes e) c.args.n ≡ true = filter_has (has (next e u)) (exec.nodes e) c.args.n (subst (λ (ns : List ℕ). has ns c.args.n ≡ true) (c.next_stands_in_preorder.ensures.order e (plain t) d) goes) in
+    let does : deed_offer c.deed-deed.result ≡ offer e u c.args.n = c.deed-deed.ensures u k.at there ∙ ap (λ (x : Exec). offer x u c.args.n) k.tree_is.held in
+    λ f. subst (λ (store : List Entity). is_workingstep (entity_at store) c.args.n ≡ true) (sym (c.store.ensures ∙ c.self.invariant.1.store_is))
+    (c.self.invariant.1.steps_are c.args.n (starter_is p u c.args.n c.deed-deed.result (c.trees_are_sound.ensures.nodes (entity_at p) (main_of p)) (c.trees_are_sound.ensures.steps (entity_at p) (main_of p)) here does f))
+
+pub version_by-version-requires : goal.version_by-version-requires
+version_by-version-requires c =
+    let p = c.self.inside.store in
+    let s = c.self.inside.edits.script in
+    let t = c.self.inside.log.items in
+    let k = c.self.invariant.0 in
+    let e = tree_of (entity_at p) (main_of p) in
+    let d = c.trees_are_sound.ensures.distinct nothing_seen (entity_at p) (main_of p) k.tree_is.no_fault in
+    let is_next : has (next_of (rules_of p s) t) c.args.n ≡ true = subst (λ (v : State). has (next_of (rules_of v.project v.script) v.list) c.args.n ≡ true) (sym c.self.view_is) c.requires in
+    let u = plain t in
+    let goes : has (next e u) c.args.n ≡ true = is_next in
+    let there : has (next (tree_in c.self.inside.tree) u) c.args.n ≡ true = subst (λ (x : Exec). has (next x u) c.args.n ≡ true) (sym k.tree_is.held) goes in
+    let here : has (exec.nodes e) c.args.n ≡ true = filter_has (has (next e u)) (exec.nodes e) c.args.n (subst (λ (ns : List ℕ). has ns c.args.n ≡ true) (c.next_stands_in_preorder.ensures.order e (plain t) d) goes) in
+    let does : deed_offer c.deed-deed.result ≡ offer e u c.args.n = c.deed-deed.ensures u k.at there ∙ ap (λ (x : Exec). offer x u c.args.n) k.tree_is.held in
+    λ f. step_has_version p t c.self.inside.edits c.args.n c.self.invariant.1 (starter_is p u c.args.n c.deed-deed.result (c.trees_are_sound.ensures.nodes (entity_at p) (main_of p)) (c.trees_are_sound.ensures.steps (entity_at p) (main_of p)) here does f)

@@ -5,6 +5,7 @@ use Rattle.exec_tree.specs.TreeOf.{tree_of}
 use Rattle.exec_tree.specs.Built.{main_of}
 use Rattle.run_law.specs.Replay.{ready}
 use Rattle.project_law.specs.ProjectRules.{rules_of}
+use Rattle.run_law.specs.Fits.{plain}
 use Rattle.run_core.specs.Kept.{State}
 use Rattle.run_core.proofs.QuestionLemmas.{told, ready_is}
 use Rattle.run_core.proofs.state.RunState.ready.Goals as goal
@@ -12,14 +13,15 @@ use Rattle.run_core.proofs.state.RunState.ready.Goals as goal
 pub returns : goal.returns
 returns c =
     let p = c.self.inside.store in
+    let s = c.self.inside.edits.script in
     let t = c.self.inside.log.items in
-    let k = c.self.invariant in
+    let k = c.self.invariant.0 in
     let e = tree_of (entity_at p) (main_of p) in
     let d = c.trees_are_sound.ensures.distinct nothing_seen (entity_at p) (main_of p) k.tree_is.no_fault in
-    let tells = told p c.self.inside.tree t k.tree_is k.no_edits (λ n. c.trees_tell.ensures.channels nothing_seen (entity_at p) (main_of p) n c.self.inside.tree k.tree_is)
-    (λ n. c.trees_tell.ensures.roles nothing_seen (entity_at p) (main_of p) n c.self.inside.tree k.tree_is) (c.next_stands_in_preorder.ensures.order e t d) in
-    subst (λ (v : State). c.first.result ≡ ready (rules_of v.project []) v.list c.args.channel) c.self.view_is
-    (c.first.ensures c.self.inside.log.items c.self.invariant.at ∙ ready_is (rules_of p []) t c.self.inside.tree c.self.inside.marks c.self.inside.steps c.args.channel tells k.steps_are k.marks_are)
+    let tells = told p s c.self.inside.tree t k.tree_is (λ n. c.trees_tell.ensures.channels nothing_seen (entity_at p) (main_of p) n c.self.inside.tree k.tree_is)
+    (λ n. c.trees_tell.ensures.roles nothing_seen (entity_at p) (main_of p) n c.self.inside.tree k.tree_is) (c.next_stands_in_preorder.ensures.order e (plain t) d) in
+    subst (λ (v : State). c.first.result ≡ ready (rules_of v.project v.script) v.list c.args.channel) c.self.view_is
+    (c.first.ensures (plain t) k.at ∙ ready_is (rules_of p s) t c.self.inside.tree c.self.inside.marks c.self.inside.steps c.args.channel tells k.steps_are k.marks_are)
 
 pub first-requires : goal.first-requires
-first-requires c = (c.self.inside.log.items, c.self.invariant.at)
+first-requires c = (plain c.self.inside.log.items, c.self.invariant.0.at)
