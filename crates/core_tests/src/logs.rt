@@ -3,8 +3,9 @@
 //! In a table the entries are parted by ` / `, and the log's last line stands behind them. `step 10` stands for all eight entries of a workingstep
 //! 10 that drills the hole `#150,#120,#130`, and `b 10 3` for its block 3.
 
-use crate::projects::project;
+use crate::projects::{project, script};
 use edit_rules::Project;
+use entity_types::Script;
 use nc_base::NoMemory;
 use nc_outside::MemorySink;
 use run_core::replay;
@@ -114,11 +115,12 @@ pub(crate) fn log_up_to(
     front_of(alloc, lines, limit, last)
 }
 
-/// The run of a project. It promises nothing, so that what is done with its log is proved without what `replay` promises.
+/// The run of a project and a script. It promises nothing, so that what is done with its log is proved without what `replay` promises.
 fn ran(
     rt: &impl Abort,
     alloc: Global,
     project: Project,
+    script: Script,
     limit: u32,
     schedule: &[u8],
 ) -> Result<(Log, Ending), NoMemory> {
@@ -126,7 +128,7 @@ fn ran(
         1 <= limit && limit <= MAX_ENTRIES,
         "a limit is 1 to 2,000,000"
     );
-    replay(alloc, project, limit, schedule)
+    replay(alloc, project, script, limit, schedule)
 }
 
 fn written(alloc: Global, log: &Log, ending: Ending) -> Result<MemorySink, Fail> {
@@ -150,18 +152,20 @@ pub(crate) fn expect_text(
     Ok(())
 }
 
-/// Stops unless the run of these instances gives this log.
+/// Stops unless the run of these instances, of this text of a script and of this schedule gives this log.
 pub(crate) fn expect_run(
     rt: &impl Abort,
     alloc: Global,
     data: &str,
+    edits: &str,
     schedule: &[u8],
     limit: u32,
     wanted: &str,
     place: &str,
 ) -> Result<(), Fail> {
     let project = project(rt, alloc, data)?;
-    let (log, ending) = ran(rt, alloc, project, limit, schedule)?;
+    let script = script(rt, alloc, edits)?;
+    let (log, ending) = ran(rt, alloc, project, script, limit, schedule)?;
     expect_text(rt, alloc, &log, ending, wanted, place)
 }
 

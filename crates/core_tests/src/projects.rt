@@ -1,6 +1,8 @@
 //! Projects whose instances are written as a file has them.
 
 use edit_rules::Project;
+use edit_script::read;
+use entity_types::Script;
 use nc_base::NoMemory;
 use project_read::{MAX_PROJECT_BYTES, project_in};
 use std::alloc::Global;
@@ -25,4 +27,10 @@ pub(crate) fn project(rt: &impl Abort, alloc: Global, data: &str) -> Result<Proj
     let text = text_of(alloc, data)?;
     assert!(rt; text.len() <= MAX_PROJECT_BYTES, "the text is too long");
     Ok(project_in(alloc, text.as_bytes())?)
+}
+
+/// The script of this text. It promises nothing either.
+pub(crate) fn script(rt: &impl Abort, alloc: Global, text: &str) -> Result<Script, Fail> {
+    assert!(rt; text.len() <= 100_000, "the text is too long");
+    Ok(read(alloc, text.as_bytes())?)
 }

@@ -6,7 +6,7 @@ use std::process::Abort;
 use std::test::Fail;
 
 // Each part of a table begins with `*` and what its project shows. The line behind that has the project's instances, and each further line is a run of it:
-// the schedule's digits, a bar, and the log as logs.rt has it.
+// the schedule's digits, behind `~` the text of a script where there is one, a bar, and the log as logs.rt has it.
 
 /// Steps and channels.
 const STEPS: &str = "* two steps in a row\n\
@@ -218,12 +218,22 @@ fn expect_up_to(
     row: &str,
     limit: u32,
 ) -> Result<(), Fail> {
-    let (digits, log) = row.split_once('|').unwrap_or(("", row));
+    let (turns, log) = row.split_once('|').unwrap_or(("", row));
+    let (digits, edits) = turns.split_once('~').unwrap_or((turns, ""));
     let (entries, last) = entries_and_last(log);
     let lines = lines_of(alloc, entries)?;
     let wanted = log_up_to(alloc, &lines, last, limit)?;
     let schedule = channels(alloc, digits)?;
-    expect_run(rt, alloc, data, schedule.as_slice(), limit, &wanted, row)
+    expect_run(
+        rt,
+        alloc,
+        data,
+        edits,
+        schedule.as_slice(),
+        limit,
+        &wanted,
+        row,
+    )
 }
 
 /// Stops unless the run up to every limit, up to one above its length, gives what it should, and one with much room too.
@@ -252,7 +262,7 @@ fn expect_part(rt: &impl Abort, alloc: Global, part: &str) -> Result<(), Fail> {
 }
 
 /// Stops unless each row of the table is right.
-fn expect_rows(rt: &impl Abort, alloc: Global, table: &str) -> Result<(), Fail> {
+pub(crate) fn expect_rows(rt: &impl Abort, alloc: Global, table: &str) -> Result<(), Fail> {
     for part in table.split("* ") {
         expect_part(rt, alloc, part)?;
     }

@@ -6,6 +6,7 @@ ghost use Rattle.run_log.specs.declared.entry.TheConstants.{MAX_ENTRIES};
 use crate::logs::{log_of, number};
 use crate::projects::project;
 use edit_rules::Project;
+use entity_types::Script;
 use nc_base::NoMemory;
 use nc_outside::MemorySink;
 use run_core::{Action, RunCore, RunName, Standing};
@@ -151,7 +152,7 @@ fn walked<N: RunName>(
     requires script { N.script ≡ [] }
     requires limit { limit ≡ N.limit }
 {
-    let mut core = RunCore::<N>::open(alloc, project, limit)?;
+    let mut core = RunCore::<N>::open(alloc, project, Script::new(alloc), limit)?;
     let mut found = String::new(alloc);
     for row in rows.lines() {
         found.push_str(&turned(alloc, &mut core, row)?)?;

@@ -2,7 +2,7 @@
 use Rattle.std.proofs.Common.{◌≡◌, ℕ, zero, suc, ◌+◌, ◌<◌, ◌==◌, Bool, true, false, cond, List, [], ◌∷◌, ◌++◌, length, get_or, Option, Some, None, refl, sym, ap, subst, ◌∙◌, arith}
 use Rattle.std.specs.Prelude.{Contains, slice_get, flat_map, IsTrue}
 use Rattle.std.proofs.lemmas.List.Elements.{Contains-append_left, Contains-append_right}
-use Rattle.std.proofs.lemmas.Option.{slice_get_within}
+use Rattle.std.proofs.lemmas.Bool.Decides.{nat_tests}
 use Rattle.entity_types.specs.declared.class.Class.{Class}
 use Rattle.entity_types.specs.declared.class.Class.TheVariants.{NcConstant}
 use Rattle.entity_types.specs.declared.entity.Entity.{Entity}
@@ -52,3 +52,15 @@ can_put store items fit = record {
   where
     of : (x : Entity) → Contains items x → FitsIn store x
     of x among = let at = at_place items x among in fit at.0 x at.1
+
+-- one item more that fits
+pub one_more : (store items : List Entity) (i : ℕ) (y : Entity) → slice_get items i ≡ Some y → FitsIn store y
+    → ((k : ℕ) (x : Entity) → k < i → slice_get items k ≡ Some x → FitsIn store x) → (k : ℕ) (x : Entity) → k < i + 1 → slice_get items k ≡ Some x → FitsIn store x
+one_more store items i y here fit before k x l at = go (k == i) refl
+  where
+    go : (b : Bool) → (k == i) ≡ b → FitsIn store x
+    go true e =
+        let same : k ≡ i = grind (arith, nat_tests) in
+        let one : y ≡ x = let both : Some y ≡ Some x = sym here ∙ ap (slice_get items) (sym same) ∙ at in cc in
+        subst (FitsIn store) one fit
+    go false e = let lt : k < i = grind (arith, nat_tests) in before k x lt at

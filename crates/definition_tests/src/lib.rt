@@ -1,4 +1,4 @@
-//! Tests of stores, of definitions and of reading projects.
+//! Tests of stores, of definitions, of versions, of verdicts and of reading projects.
 #![tactic(auto)]
 
 #[cfg(test)]
@@ -13,3 +13,5 @@ mod reading;
 mod store;
 #[cfg(test)]
 mod verdicts;
+#[cfg(test)]
+mod versions;

@@ -38,7 +38,7 @@ fn fits(alloc: Global, store: &Store, item: &Entity) -> Result<bool, NoMemory>
 }
 
 /// Whether each of the items is such a one.
-fn can_be_put(alloc: Global, store: &Store, items: &EntityList) -> Result<bool, NoMemory>
+pub fn can_be_put(alloc: Global, store: &Store, items: &EntityList) -> Result<bool, NoMemory>
     ensures { IfOk result (λ can. IsTrue can → CanPut store.now items.now) }
 {
     for i in 0..items.len() {

@@ -10,7 +10,7 @@ use crate::entities::entities;
 use crate::store::store;
 use edit_rules::laws::{
     accepted_edits_are_safe, accepted_edits_keep_a_project, rules_decide,
-    steps_of_trees_are_workingsteps,
+    steps_of_trees_are_workingsteps, verdicts_ask_for_members,
 };
 use edit_rules::{Project, judge};
 use entity_types::{Edit, EntityList};
@@ -261,4 +261,5 @@ fn laws_of_verdicts_can_be_cited() {
     rules_decide();
     accepted_edits_are_safe();
     accepted_edits_keep_a_project();
+    verdicts_ask_for_members();
 }

@@ -2,7 +2,7 @@ pub mod TreeLemmas
 pub mod FaultLemmas
 pub mod StepLemmas
 pub mod JudgeLemmas
-pub mod FirstLemmas
+pub mod StepFaultLemmas
 pub mod AcceptLemmas
-pub mod JudgingLemmas
+pub mod VerdictLemmas
 pub mod Rows

@@ -1,6 +1,6 @@
 //! Laws of verdicts. Each function's contract is the law.
 
-ghost use Rattle.std.specs.Prelude.{◌≡◌, ◌↔◌, ℕ, List, true, false, Option, Some, None};
+ghost use Rattle.std.specs.Prelude.{◌≡◌, ◌↔◌, ℕ, List, true, false, Option, Some, None, Contains};
 ghost use Rattle.std.specs.List.{list_all};
 ghost use Rattle.nc_base.specs.declared.verdict.Verdict.TheVariants.{Accepted};
 ghost use Rattle.entity_types.specs.declared.entity.Entity.{Entity};
@@ -46,6 +46,11 @@ pub fn accepted_edits_keep_a_project()
     definition_is_local();
     unreached_keeps_its_definition();
 }
+
+/// A verdict asks only which steps were dispatched, not how often or in which order.
+pub fn verdicts_ask_for_members()
+    ensures { (store : List Entity) (steps sent others : List ℕ) (items : List Entity) → ((n : ℕ) → Contains sent n ↔ Contains others n) → judge store steps sent items ≡ judge store steps others items }
+{}
 
 /// The steps of a tree are workingsteps of its store.
 pub fn steps_of_trees_are_workingsteps()

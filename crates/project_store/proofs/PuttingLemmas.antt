@@ -1,8 +1,8 @@
 -- Items put into a store as a list: what is found in it, and where each number stands.
-use Rattle.std.proofs.Common.{◌≡◌, ℕ, zero, suc, ◌+◌, ◌<◌, ◌≤◌, ◌==◌, ◌||◌, nat_eq, Bool, true, false, cond, List, [], ◌∷◌, ◌++◌, length, get_or, drop, take, Option, Some, None, ◌⊎◌, inl, inr, refl, sym, ap, subst, ◌∙◌, arith, append_assoc}
+use Rattle.std.proofs.Common.{◌≡◌, ℕ, zero, suc, ◌+◌, ◌<◌, ◌≤◌, ◌==◌, nat_eq, Bool, true, false, cond, List, [], ◌∷◌, ◌++◌, length, drop, Option, Some, None, refl, sym, ap, subst, ◌∙◌, arith, append_assoc}
 use Rattle.std.specs.Prelude.{slice_get, slice_set, is_some, if◌then◌else◌}
 use Rattle.std.proofs.lemmas.List.{append-nil}
-use Rattle.std.specs.List.{IsDistinct, AllByRecursion, list_any}
+use Rattle.std.specs.List.{IsDistinct, AllByRecursion}
 use Rattle.std.specs.List.Sorted.{IsPermutation}
 use Rattle.std.proofs.lemmas.Bool.Decides.{nat_tests}
 use Rattle.std.proofs.lemmas.Cmp.{nat_eq_equiv}
@@ -107,6 +107,7 @@ at_put_in (e ∷ es) x n zero at = go (e.number == x.number) refl
   where
     first : e.number ≡ n
     first = let same : e ≡ at.0 = let h : Some e ≡ Some at.0 = at.1 in cc in ap (λ (y : Entity). y.number) same ∙ at.2
+
     go : (b : Bool) → (e.number == x.number) ≡ b → IsAt (put_in (e ∷ es) x) n zero
     go true h = rw h (x, refl, (let same : x.number ≡ e.number = grind (arith, nat_tests) in same ∙ first))
     go false h = rw h (e, refl, first)

@@ -1,10 +1,9 @@
 -- A store with items put that may be put is a store.
-use Rattle.std.proofs.Common.{◌≡◌, ℕ, zero, suc, ◌+◌, ◌<◌, ◌==◌, ◌&&◌, ◌||◌, nat_eq, Bool, true, false, cond, List, [], ◌∷◌, ◌++◌, length, get_or, Option, Some, None, refl, sym, ap, subst, ◌∙◌, arith}
-use Rattle.std.specs.Prelude.{slice_get, Contains, IsTrue, not, option_map}
+use Rattle.std.proofs.Common.{◌≡◌, ℕ, suc, ◌==◌, ◌&&◌, ◌||◌, nat_eq, Bool, true, false, cond, List, [], ◌∷◌, length, Option, Some, None, refl, sym, ap, subst, ◌∙◌, arith}
+use Rattle.std.specs.Prelude.{slice_get, Contains, IsTrue, not}
 use Rattle.std.specs.Option.{option_map_or}
 use Rattle.std.specs.List.{IsDistinct, AllByRecursion, list_all}
 use Rattle.std.proofs.lemmas.Bool.Decides.{nat_tests}
-use Rattle.std.proofs.lemmas.Bool.{false≢true}
 use Rattle.entity_types.specs.declared.class.Class.{Class}
 use Rattle.entity_types.specs.declared.class.Class.TheVariants.{Project}
 use Rattle.entity_types.specs.declared.entity.Entity.{Entity}
@@ -16,14 +15,14 @@ use Rattle.entity_types.specs.Table.{used_of}
 use Rattle.entity_types.specs.Target.{accepts}
 use Rattle.entity_types.specs.Entity.{is_among, field_at, references_of}
 use Rattle.project_store.specs.Entities.{numbers_of, entity_at}
-use Rattle.project_store.specs.Build.{is_project, projects_of, count_fault, fault_of, is_of_target, wrong_among, wrong_position, lesser, least_fault}
+use Rattle.project_store.specs.Build.{is_project, projects_of, count_fault, fault_of, is_of_target, wrong_among, wrong_position, least_fault}
 use Rattle.project_store.specs.Put.{put, put_all, put_in, put_items}
 use Rattle.project_store.specs.Putting.{ResolvesIn, CanPut}
-use Rattle.project_store.specs.Resolved.{target_among, IsResolved}
+use Rattle.project_store.specs.Resolved.{target_among}
 use Rattle.project_store.proofs.PlaceLemmas.{found_there}
 use Rattle.project_store.proofs.PuttingLemmas.{no_way, found_put, found_all}
 use Rattle.project_store.proofs.MissingLemmas.{no_fault}
-use Rattle.project_store.proofs.Sound.{resolved, one_project, and_left, and_right}
+use Rattle.project_store.proofs.Sound.{resolved, one_project, and_right}
 
 first_in : (x : Entity) (xs : List Entity) → Contains (x ∷ xs) x
 first_in x xs = (0, omega arith, refl)
@@ -144,11 +143,11 @@ none_wrong all [] fs apart right = refl
 none_wrong all (u ∷ us) [] apart right = refl
 none_wrong all (u ∷ us) (f ∷ fs) apart right =
     let here : list_all (is_of_target all u.target) (references_of f) ≡ true =
-        all_of all u.target (references_of f) (λ r c. right u.position r u.target f (rw (itself u.position) refl) (rw (itself u.position) refl) c) in
+    all_of all u.target (references_of f) (λ r c. right u.position r u.target f (rw (itself u.position) refl) (rw (itself u.position) refl) c) in
     rw here
     (none_wrong all us fs (apart_rest u us apart) (λ p r t g at field c.
-        let other : (u.position == p) ≡ false = other_position us u.position p t (apart_first u us apart) at in
-        right p r t g (rw other at) (rw other field) c))
+    let other : (u.position == p) ≡ false = other_position us u.position p t (apart_first u us apart) at in
+    right p r t g (rw other at) (rw other field) c))
 
 no_wrong_position : (all : List Entity) (e : Entity) → ResolvesIn (entity_at all) e → wrong_position all e ≡ None
 no_wrong_position all e right = none_wrong all (used_of e.class) e.fields (table_apart e.class) (λ p r t f at field c. right p r t f at field c)
@@ -207,9 +206,9 @@ pub no_fault_put : (store items : List Entity) → fault_of store ≡ None → I
 no_fault_put store items none distinct can =
     let all : List Entity = put_items store items in
     let one : count_fault (projects_of all) ≡ None =
-        one_by_length (projects_of all) (projects_of store) (as_many_all store items (keeps_one store items can)) (one_project store none) in
+    one_by_length (projects_of all) (projects_of store) (as_many_all store items (keeps_one store items can)) (one_project store none) in
     let right : AllByRecursion (λ e. wrong_position all e ≡ None) all =
-        all_put (λ e. wrong_position all e ≡ None) store items
-        (all_at (λ e. wrong_position all e ≡ None) store (λ j e there. no_wrong_position all e (old_right store items none distinct can j e there)))
-        (λ x among. no_wrong_position all x (new_right store items can x among)) in
+    all_put (λ e. wrong_position all e ≡ None) store items
+    (all_at (λ e. wrong_position all e ≡ None) store (λ j e there. no_wrong_position all e (old_right store items none distinct can j e there)))
+    (λ x among. no_wrong_position all x (new_right store items can x among)) in
     no_fault all one (none_least all all right)

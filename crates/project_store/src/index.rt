@@ -144,7 +144,12 @@ impl Index {
             return Err(items);
         }
         let left = reversed(items, room);
-        put_each(&mut self.entities, self.opening.as_slice(), added.as_slice(), left);
+        put_each(
+            &mut self.entities,
+            self.opening.as_slice(),
+            added.as_slice(),
+            left,
+        );
         self.added = added;
         Ok(())
     }

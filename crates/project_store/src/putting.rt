@@ -34,10 +34,8 @@ pub(crate) fn added_with(
     items: &[Entity],
 ) -> Result<Vec<Place>, NoMemory>
     ensures ordered { IfOk result (λ all. AreOrdered all.items) }
-    ensures all {
-        let behind = drop (length index.now) (put_items index.now items.now) in
-        IfOk result (λ all. IsPermutation (added.now ++ places_from (length index.now) behind) all.items)
-    }
+    ensures all { let behind = drop (length index.now) (put_items index.now items.now) in
+        IfOk result (λ all. IsPermutation (added.now ++ places_from (length index.now) behind) all.items) }
 {
     let numbers = new_numbers(alloc, index, items)?;
     places_with(alloc, added, index.len(), numbers.as_slice())

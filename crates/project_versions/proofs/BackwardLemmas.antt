@@ -89,8 +89,8 @@ linked_more store rows head link k old mid new edge is_link at adds step = recor
     | inr rest ↦ elim (link_cases rows.edges k link j is_link rest) [
       | inl e ↦ inl (Contains-append_right adds.users step.users n (step.all n (subst (λ (i : ℕ). IsUserAt store rows i n) e is)))
       | inr more ↦ (let one : Some more.0 ≡ Some edge = sym more.1 ∙ at in
-        let same : more.0 ≡ edge = cc in
-        inr (subst (λ (e : Edge). Linked rows.edges e.next j) same more.2))
+          let same : more.0 ≡ edge = cc in
+          inr (subst (λ (e : Edge). Linked rows.edges e.next j) same more.2))
     ]
   ];
 }
@@ -266,8 +266,8 @@ reached_steps store steps items keys (Ok list) reach is rising = record {
   rising = subst IsStrictlyIncreasing (sym is) (IsStrictlyIncreasing-filter (is_among steps) keys rising);
   members = λ n. (
     λ h. (let z = filtered_from (is_among steps) keys n (subst (λ (l : List ℕ). Contains l n) is h) in
-    (among_holds steps n z.1, (decided store items n).1 ((reach n).0 z.0))),
-    λ h. subst (λ (l : List ℕ). Contains l n) (sym is) (filtered_in (is_among steps) keys n ((reach n).1 ((decided store items n).0 h.1)) (holds_among steps n h.0))
+        (among_holds steps n z.1, (decided store items n).1 ((reach n).0 z.0))),
+    λ h. subst (λ (l : List ℕ). Contains l n) (sym is) (filtered_in (is_among steps) keys n ((reach n).1 ((decided store items n).0 h.1)) (holds_among steps n h.0)),
   );
 }
 

@@ -39,7 +39,7 @@ Grown-by true old n there = record {
 Grown-by false old n there = record {
   members = λ m. (
     λ h. elim (Contains-push_cases old n m h) [ inl is ↦ inl is | inr e ↦ inr (subst (Contains (n ∷ [])) e (Contains-push [] n)) ],
-    λ h. elim h [ inl is ↦ Contains-append_left old (n ∷ []) m is | inr new ↦ subst (Contains (old ++ n ∷ [])) (only_there n m new) (Contains-push old n) ]
+    λ h. elim h [ inl is ↦ Contains-append_left old (n ∷ []) m is | inr new ↦ subst (Contains (old ++ n ∷ [])) (only_there n m new) (Contains-push old n) ],
   );
   kept = λ k l. get_or_append_left old (n ∷ []) 0 k l;
   grows = omega (arith, length-append old (n ∷ []));
@@ -61,7 +61,7 @@ Grown-both a b d us vs first then = record {
         | inl u ↦ (then.members n).1 (inl ((first.members n).1 (inr u)))
         | inr v ↦ (then.members n).1 (inr v)
       ]
-    ]
+    ],
   );
   kept = λ k l. then.kept k (omega (arith, l, first.grows)) ∙ first.kept k l;
   grows = omega (arith, first.grows, then.grows);

@@ -74,6 +74,18 @@ pub all_grow : (store items : List Entity) → length store ≤ length (put_item
 all_grow store [] = omega arith
 all_grow store (item ∷ items) = omega (arith, put_grows store item, all_grow (put_in store item) items)
 
+put_few : (store : List Entity) (item : Entity) → length (put_in store item) ≤ length store + 1
+put_few [] item = omega arith
+put_few (x ∷ store) item = go (x.number == item.number) refl (put_few store item)
+  where
+    go : (b : Bool) → (x.number == item.number) ≡ b → length (put_in store item) ≤ length store + 1 → length (put_in (x ∷ store) item) ≤ suc (length store) + 1
+    go true t le = rw t (omega arith)
+    go false t le = rw t (omega (arith, le))
+
+pub all_few : (store items : List Entity) → length (put_items store items) ≤ length store + length items
+all_few store [] = omega arith
+all_few store (item ∷ items) = omega (arith, put_few store item, all_few (put_in store item) items)
+
 -- ---- the index over a store that grew
 
 pub linked_on : (rows : Rows) (m n : ℕ) → m ≤ n → AreLinked m rows → AreLinked n rows
@@ -107,7 +119,7 @@ was store items p user lt at =
     (old.0, old.1, sym now.2 ∙ ap (λ (e : Entity). e.number) one)
 
 module _ (store items : List Entity) (rows : Rows) (distinct : IsDistinct nat_eq (numbers_of (put_items store items)))
-  (closed : (n r : ℕ) → Contains (uses_at (entity_at store) n) r → entity_at store r ≡ None → ⊥) (index : IsUserIndex store rows) where
+    (closed : (n r : ℕ) → Contains (uses_at (entity_at store) n) r → entity_at store r ≡ None → ⊥) (index : IsUserIndex store rows) where
   -- what stands at a new place has a new number
   new_number : (p : ℕ) (user : Entity) → length store ≤ p → slice_get (put_items store items) p ≡ Some user → entity_at store user.number ≡ None
   new_number p user le at = go (entity_at store user.number) refl

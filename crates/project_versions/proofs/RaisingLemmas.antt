@@ -142,6 +142,6 @@ not_before steps i rising within = go (is_among (take i steps) (get_or steps i 0
         let has = among_holds (take i steps) (get_or steps i 0) e in
         let less : has.0 < i = omega (arith, has.1, length-take-le i steps (omega (arith, within))) in
         let is : get_or steps has.0 0 ≡ get_or steps i 0 =
-            sym (get_or-take i steps has.0 0 less)
-            ∙ get_or_from_slice_get (take i steps) has.0 (get_or steps i 0) 0 (slice_get-get_or (take i steps) has.0 (get_or steps i 0) has.1 ∙ ap Some has.2) in
+        sym (get_or-take i steps has.0 0 less)
+        ∙ get_or_from_slice_get (take i steps) has.0 (get_or steps i 0) 0 (slice_get-get_or (take i steps) has.0 (get_or steps i 0) has.1 ∙ ap Some has.2) in
         absurd (omega (arith, is, rises steps rising has.0 i less within))

@@ -28,7 +28,7 @@ ordered steps sorted order same rise once =
       rising = subst IsStrictlyIncreasing (sym is) (IsStrictlyIncreasing-dedup sorted rise);
       members = λ n. (
         λ h. Contains-permutation sorted steps n (IsPermutation-sym steps sorted same) (Contains-from_dedup eqb sorted n (subst (λ (ns : List ℕ). Contains ns n) is h)),
-        λ h. subst (λ (ns : List ℕ). Contains ns n) (sym is) (Contains-dedup_nat sorted n (Contains-permutation steps sorted n same h))
+        λ h. subst (λ (ns : List ℕ). Contains ns n) (sym is) (Contains-dedup_nat sorted n (Contains-permutation steps sorted n same h)),
       );
     }
 
@@ -73,12 +73,12 @@ pub not_there : (steps order : List ℕ) (n : ℕ) (r : Result ℕ ℕ) (o : Opt
 not_there steps order n (Ok i) o is found e = subst (λ (p : Option ℕ). IfNone p (Contains steps n → ⊥)) (sym e) tt
 not_there steps order n (Err i) o is found e =
     subst (λ (p : Option ℕ). IfNone p (Contains steps n → ⊥)) (sym e) (λ h.
-      let sides = searched order n (Err i) found (λ k j le lt. upward k j le lt) in
-      let there = (is.members n).1 h in
-      let at : get_or order there.0 0 ≡ n = get_or_from_slice_get order there.0 n 0 (slice_get-get_or order there.0 n there.1 ∙ ap Some there.2) in
-      let low : there.0 < i → ⊥ = λ lt. (let f = sides.1 there.0 lt in omega (arith, f, at)) in
-      let high : i ≤ there.0 → ⊥ = λ le. (let f = sides.2 there.0 le there.1 in omega (arith, f, at)) in
-      omega (arith, low, high))
+    let sides = searched order n (Err i) found (λ k j le lt. upward k j le lt) in
+    let there = (is.members n).1 h in
+    let at : get_or order there.0 0 ≡ n = get_or_from_slice_get order there.0 n 0 (slice_get-get_or order there.0 n there.1 ∙ ap Some there.2) in
+    let low : there.0 < i → ⊥ = λ lt. (let f = sides.1 there.0 lt in omega (arith, f, at)) in
+    let high : i ≤ there.0 → ⊥ = λ le. (let f = sides.2 there.0 le there.1 in omega (arith, f, at)) in
+    omega (arith, low, high))
   where
     upward : (k j : ℕ) → k ≤ j → j < length order → get_or order k 0 ≤ get_or order j 0
     upward k j le lt = go (eqb k j) refl
@@ -188,9 +188,9 @@ mark_tells steps order marks step i true is at mark = (λ h. in_marked order mar
 mark_tells steps order marks step i false is at mark = (
   λ h. absurd (no_way h),
   λ h. (let m = of_marked order marks step h in
-  let same : m.place ≡ i = one_place order is.rising step m.place i m.number at in
-  let both : Some true ≡ Some false = sym m.mark ∙ ap (slice_get marks) same ∙ mark in
-  absurd (cc))
+      let same : m.place ≡ i = one_place order is.rising step m.place i m.number at in
+      let both : Some true ≡ Some false = sym m.mark ∙ ap (slice_get marks) same ∙ mark in
+      absurd (cc)),
 )
 
 -- what isn't one of the steps isn't marked

@@ -288,7 +288,7 @@ row_begins store rows p count linked within all = record {
   others = λ q us other right. record {
     sound = λ i k used at edge. right.sound i k used at (record { edge = edge.edge; at = edge.at; linked = edge.linked; user = edge.user; present = omega (arith, else q other, edge.present) });
     complete = λ i used at has. (let e = right.complete i used at has in
-    (e.0, record { edge = e.1.edge; at = e.1.at; linked = e.1.linked; user = e.1.user; present = omega (arith, else q other, e.1.present) }));
+        (e.0, record { edge = e.1.edge; at = e.1.at; linked = e.1.linked; user = e.1.user; present = omega (arith, else q other, e.1.present) }));
   };
 }
   where
@@ -336,9 +336,9 @@ one_put store old new p item place sets = record {
   since = sets.since;
   right = λ entities right q user at. elim (by_number user.number item.number) [
     | inl e ↦ (let here : q ≡ p = place.only q user at (same user.number item.number e) in
-      subst (RowIsRight store new q) (sym (uses_new entities item user.number e)) (subst (λ (i : ℕ). RowIsRight store new i (uses_of item)) (sym here) sets.own))
+        subst (RowIsRight store new q) (sym (uses_new entities item user.number e)) (subst (λ (i : ℕ). RowIsRight store new i (uses_of item)) (sym here) sets.own))
     | inr n ↦ subst (RowIsRight store new q) (sym (uses_old entities item user.number n))
-      (sets.others q (uses_at entities user.number) (λ e. apart user.number item.number n (place.is user (subst (λ (i : ℕ). slice_get store i ≡ Some user) e at))) (right q user at))
+        (sets.others q (uses_at entities user.number) (λ e. apart user.number item.number n (place.is user (subst (λ (i : ℕ). slice_get store i ≡ Some user) e at))) (right q user at))
   ];
 }
 

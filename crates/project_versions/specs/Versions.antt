@@ -1,5 +1,5 @@
 -- The store after edits, and the versions of workingsteps.
-use Rattle.std.specs.Prelude.{ℕ, ◌+◌, Bool, true, false, ◌==◌, if◌then◌else◌, List, [], ◌∷◌, slice_get, Option, Some, None, Result}
+use Rattle.std.specs.Prelude.{ℕ, ◌+◌, Bool, true, false, List, [], ◌∷◌, slice_get, Option, Some, None, Result}
 use Rattle.nc_base.specs.declared.verdict.Verdict.{Verdict}
 use Rattle.nc_base.specs.declared.verdict.Verdict.TheVariants.{Accepted}
 use Rattle.path_blocks.specs.declared.def.Def.{Def}

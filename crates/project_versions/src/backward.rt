@@ -8,7 +8,6 @@ ghost use Rattle.project_versions.specs.Reach.{Reach};
 ghost use Rattle.project_versions.specs.Users.{rows_of, AreLinked, HasRows, IsUserIndex, AddsUsers, AddsEdge, AddsLinked, Grown};
 ghost use Rattle.project_versions.specs.Versioned.{AreReached};
 
-
 use crate::step_order::StepOrder;
 use crate::users::Users;
 use entity_types::Entity;
@@ -18,12 +17,7 @@ use std::alloc::Global;
 use std::collections::BTreeSet;
 
 /// Puts in the user of the edge at index `k`, where the edge is still in its row.
-fn insert_edge(
-    set: &mut Gathered,
-    users: &Users,
-    store: &Store,
-    k: usize,
-) -> Result<(), NoMemory>
+fn insert_edge(set: &mut Gathered, users: &Users, store: &Store, k: usize) -> Result<(), NoMemory>
     requires linked { AreLinked (length store.now) (rows_of users.now) }
     requires rows { HasRows (length store.now) (rows_of users.now) }
     requires within { k < length users.now.edges.items }

@@ -1,6 +1,6 @@
 //! Laws of edits. Each function's contract is the law.
 
-ghost use Rattle.std.specs.Prelude.{◌≡◌, ◌↔◌, ◌+◌, [], ◌∷◌, ◌++◌, ℕ, List, true, false};
+ghost use Rattle.std.specs.Prelude.{◌≡◌, ◌↔◌, ◌≤◌, ◌+◌, length, [], ◌∷◌, ◌++◌, ℕ, List, true, false};
 ghost use Rattle.entity_types.specs.declared.entity.Entity.{Entity};
 ghost use Rattle.entity_types.specs.declared.edit.Edit.{Edit};
 ghost use Rattle.project_store.specs.Entities.{entity_at};
@@ -8,6 +8,7 @@ ghost use Rattle.project_store.specs.Put.{put_all};
 ghost use Rattle.step_def.specs.DefOf.{def_of};
 ghost use Rattle.project_versions.specs.Versions.{Event, put_items, store_by, rises_by, store_from, version_from};
 ghost use Rattle.project_versions.specs.Reach.{is_reached, after, Reach};
+ghost use Rattle.project_versions.specs.Versioned.{new_instances};
 
 use step_def::definition_is_local;
 
@@ -29,3 +30,8 @@ pub fn unreached_keeps_its_definition()
 {
     definition_is_local();
 }
+
+/// At most as many instances are new in a store with items put as there are items.
+pub fn few_are_new()
+    ensures { (store items : List Entity) → new_instances store items ≤ length items }
+{}

@@ -108,7 +108,13 @@ impl Versions {
     pub fn reached(&self, alloc: Global, edit: &Edit) -> Result<NumberList, NoMemory>
         ensures { IfOk result (AreReached self.now.store self.now.steps edit.now.items) }
     {
-        reaching(alloc, &self.store, &self.users, &self.order, edit.items.as_slice())
+        reaching(
+            alloc,
+            &self.store,
+            &self.users,
+            &self.order,
+            edit.items.as_slice(),
+        )
     }
 
     /// Puts the items of an edit into the store, and raises by one the version of each workingstep that it reaches.

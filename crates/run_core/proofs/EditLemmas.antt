@@ -1,11 +1,12 @@
 -- What is kept of a script's edits is what the rules say of them.
-use Rattle.std.specs.Prelude.{◌≡◌, ◌<◌, ◌≤◌, ◌+◌, ◌-◌, ◌==◌, ◌&&◌, ◌||◌, ◌⊎◌, ◌↔◌, not, ℕ, zero, suc, nat_eq, Bool, true, false, nat_le, is_none, is_some, if◌then◌else◌, List, [], ◌∷◌, ◌++◌, length, drop, map, slice_get, Option, Some, None, option_map, unwrap_or, IfSome, Contains}
+use Rattle.std.specs.Prelude.{◌≡◌, ◌<◌, ◌≤◌, ◌+◌, ◌-◌, ◌==◌, ◌&&◌, ◌||◌, ◌⊎◌, ◌↔◌, ⊤, not, ℕ, zero, suc, nat_eq, Bool, true, false, nat_le, is_none, is_some, if◌then◌else◌, List, [], ◌∷◌, ◌++◌, length, drop, map, slice_get, Option, Some, None, option_map, unwrap_or, IsSome, IfSome, IfOk, OnOk, Result, Ok, Err, Contains}
 use Rattle.std.specs.Option.{option_map_or, option_or, option_to_list}
 use Rattle.std.specs.List.{list_any, list_all}
 use Rattle.std.proofs.Common.{refl, sym, subst, ap, ◌∙◌, arith, inl, inr}
 use Rattle.std.proofs.lemmas.Bool.Decides.{nat_tests}
 use Rattle.std.proofs.lemmas.Cmp.{nat_eq_equiv}
 use Rattle.std.proofs.lemmas.Map.Views.{Contains-from_any, list_any-from_Contains}
+use Rattle.nc_base.specs.declared.memory.NoMemory.{NoMemory}
 use Rattle.nc_base.specs.declared.verdict.Verdict.{Verdict}
 use Rattle.nc_base.specs.declared.verdict.Verdict.TheVariants.{Accepted, Refused}
 use Rattle.entity_types.specs.declared.entity.Entity.{Entity}
@@ -33,7 +34,7 @@ use Rattle.project_law.specs.Script.{store_after, event_of, events_of}
 use Rattle.project_law.specs.ProjectRules.{rules_of, store_steps, version_after, verdict_after, verdict_on}
 use Rattle.run_core.specs.declared.edits.Editing.{Editing}
 use Rattle.run_core.specs.declared.edits.Edits.{Edits}
-use Rattle.run_core.specs.Edits.{HasVersion, IsEditing, IsOpening, AreKept, now_store, version_now, items_in, due_by}
+use Rattle.run_core.specs.Edits.{HasVersion, IsEditing, IsOpening, IsPut, PutsNext, AreKept, now_store, version_now, items_in, due_by}
 
 no_way : false ≡ true → ⊥
 no_way e = cc
@@ -242,6 +243,36 @@ has_append (k ∷ ks) ms n = ap (λ (b : Bool). (k == n) || b) (has_append ks ms
     assoc true b c = refl
     assoc false b c = refl
 
+-- with a step more they go on
+pub adds_go_on : (n v : ℕ) (old new : Editing) → new.versions ≡ old.versions → Adds old.sent new.sent n → SentMore (entries.Dispatch n v) old new
+adds_go_on n v old new versions adds = (versions, adds.steps, λ m. go m (has new.sent.members m) refl (has old.sent.members m) refl (n == m) refl)
+  where
+    no_true : (b : Bool) → b ≡ true → b ≡ false → ⊥
+    no_true b e f = cc
+
+    go : (m : ℕ) (a : Bool) → has new.sent.members m ≡ a → (b : Bool) → has old.sent.members m ≡ b → (c : Bool) → (n == m) ≡ c → has new.sent.members m ≡ (has old.sent.members m || (c || false))
+    go m a e true f c g =
+        let z = contains_has new.sent.members m ((adds.members m).1 (inr (has_contains old.sent.members m f))) in
+        z ∙ sym (rw f refl)
+    go m a e false f true g =
+        let s : m ≡ n = grind (arith, nat_tests) in
+        let z = contains_has new.sent.members m ((adds.members m).1 (inl s)) in
+        z ∙ sym (rw f refl)
+    go m true e false f false g = absurd (elim ((adds.members m).0 (has_contains new.sent.members m e)) [ inl s ↦ apart s | inr i ↦ no_true (has old.sent.members m) (contains_has old.sent.members m i) f ])
+      where
+        apart : m ≡ n → ⊥
+        apart s = let z : (n == m) ≡ true = grind (arith, nat_tests) in no_true (n == m) z g
+    go m false e false f false g = e ∙ sym (rw f refl)
+
+-- an entry that dispatches nothing leaves them
+pub none_go_on : (x : Entry) (o : Option Editing) → dispatched x ≡ None → GoOn x o o
+none_go_on x None e = refl
+none_go_on x (Some a) e = (a, refl, (refl, refl, λ n. or_none (has a.sent.members n) ∙ ap (λ (d : Option ℕ). has a.sent.members n || has (option_to_list d) n) (sym e)))
+  where
+    or_none : (b : Bool) → b ≡ (b || false)
+    or_none true = refl
+    or_none false = refl
+
 pub followed : (project : List Entity) (t : List Entry) (x : Entry) (old new : Edits) → new.script ≡ old.script → new.judged ≡ old.judged → Moves project old.script t x → GoOn x old.editing new.editing
     → AreKept project t old → AreKept project (t ++ x ∷ []) new
 followed project t x old new scripts counts m g k =
@@ -412,18 +443,16 @@ refused project t old new edit rule a b e scripts counts same m k =
 
 -- what is kept after an edit that is accepted, and put
 pub accepted : (project : List Entity) (t : List Entry) (old new : Edits) (edit : Edit) (before after : Editing) → slice_get old.script old.judged ≡ Some edit → new.script ≡ old.script → new.judged ≡ old.judged + 1
-    → old.editing ≡ Some before → new.editing ≡ Some after → after.sent ≡ before.sent → after.versions.store ≡ put_items before.versions.store edit.items → after.versions.steps ≡ before.versions.steps
-    → ((n : ℕ) → Contains before.versions.steps n → version_of after.versions.versions n ≡ version_of before.versions.versions n + one_where (is_reached before.versions.store edit.items n))
-    → after.versions.spare + new_instances before.versions.store edit.items ≡ before.versions.spare
+    → old.editing ≡ Some before → new.editing ≡ Some after → IsPut edit before after
     → ((n : ℕ) → has (store_steps project) n ≡ true → has_def before.versions.store n ≡ true → has_def (put_items before.versions.store edit.items) n ≡ true)
     → ((n : ℕ) → is_workingstep (entity_at before.versions.store) n ≡ true → is_workingstep (entity_at (put_items before.versions.store edit.items)) n ≡ true)
     → Settles project old.script t old.judged Accepted → AreKept project t old → AreKept project (t ++ entries.Edit old.judged Accepted ∷ []) new
-accepted project t old new edit before after e scripts counts held holds sets stores steps versions spares keeps_defs keeps_steps m k =
+accepted project t old new edit before after e scripts counts held holds put keeps_defs keeps_steps m k =
     subst (λ (script : List Edit). AreKept project later (record { script = script; judged = new.judged; editing = new.editing })) (sym scripts)
     (subst (λ (o : Option Editing). AreKept project later (record { script = old.script; judged = new.judged; editing = o })) (sym holds) (record {
       count = counts ∙ (ap (λ (i : ℕ). i + 1) k.count ∙ sym m.judged_more);
-      store_is = stores ∙ (ap (λ (store : List Entity). put_items store edit.items) store_before ∙ sym store_behind);
-      versions_are = λ n h. versions n (subst (λ (ns : List ℕ). Contains ns n) (sym own.steps) (has_contains (store_steps project) n h))
+      store_is = put.stores ∙ (ap (λ (store : List Entity). put_items store edit.items) store_before ∙ sym store_behind);
+      versions_are = λ n h. put.versions n (subst (λ (ns : List ℕ). Contains ns n) (sym own.steps) (has_contains (store_steps project) n h))
           ∙ (ap (λ (v : ℕ). v + one_where (is_reached before.versions.store edit.items n)) (sym (ap (λ (o : Option Editing). version_now o n) held) ∙ k.versions_are n h)
           ∙ (ap (λ (store : List Entity). version_after old.script project t n + one_where (is_reached store edit.items n)) store_before
           ∙ sym (m.version_more n ∙ ap (λ (o : Option Edit). version_after old.script project t n + reaches_edit (store_after old.script project t) o n) e)));
@@ -433,10 +462,10 @@ accepted project t old new edit before after e scripts counts held holds sets st
           (keeps_steps n (subst (λ (store : List Entity). is_workingstep (entity_at store) n ≡ true) (sym store_before) (k.steps_are n h)));
       none = λ h. absurd (some_none after h);
       each = record {
-        steps = steps ∙ own.steps;
-        known = ap (λ it. it.steps) sets ∙ own.known;
-        sent_are = λ n. ap (λ it. has it.members n) sets ∙ (own.sent_are n ∙ ap (λ (ns : List ℕ). has ns n) (sym (m.sent_same ∙ append_none (sent t))));
-        room = subst (λ (j : ℕ). items_in (drop j old.script) ≤ after.versions.spare) (sym (m.judged_more ∙ next_one)) ((room_for before.versions.store old.script (judged t) before.versions.spare edit here own.room).left after.versions.spare spares);
+        steps = put.same_steps ∙ own.steps;
+        known = ap (λ it. it.steps) put.sets ∙ own.known;
+        sent_are = λ n. ap (λ it. has it.members n) put.sets ∙ (own.sent_are n ∙ ap (λ (ns : List ℕ). has ns n) (sym (m.sent_same ∙ append_none (sent t))));
+        room = subst (λ (j : ℕ). items_in (drop j old.script) ≤ after.versions.spare) (sym (m.judged_more ∙ next_one)) ((room_for before.versions.store old.script (judged t) before.versions.spare edit here own.room).left after.versions.spare put.spares);
       };
     }))
   where
@@ -460,3 +489,114 @@ accepted project t old new edit before after e scripts counts held holds sets st
 
     next_one : judged t + 1 ≡ suc (judged t)
     next_one = omega arith
+
+-- ---- results
+
+pub if_ok : {A : Type 0} (r : Result A NoMemory) (P Q : A → Type 0) → IfOk r P → ((a : A) → P a → Q a) → IfOk r Q
+if_ok (Ok a) P Q h f = f a h
+if_ok (Err e) P Q h f = tt
+
+-- where there is an edit something is kept
+pub is_kept : (project : List Entity) (t : List Entry) (edits : Edits) (edit : Edit) → AreKept project t edits → slice_get edits.script edits.judged ≡ Some edit → edits.editing ≡ None → ⊥
+is_kept project t edits edit k e f = none_some (sym (ap (λ (script : List Edit). slice_get script edits.judged) (k.none f)) ∙ e)
+  where
+    none_some : slice_get [] edits.judged ≡ Some edit → ⊥
+    none_some g = cc
+
+pub kept_of : (project : List Entity) (t : List Entry) (edits : Edits) (e : Editing) → AreKept project t edits → edits.editing ≡ Some e → IsEditing project edits.script t e
+kept_of project t edits e k f = subst (λ (o : Option Editing). IfSome o (λ it. IsEditing project edits.script t it)) f k.each
+
+pub store_of : (project : List Entity) (t : List Entry) (edits : Edits) (e : Editing) → AreKept project t edits → edits.editing ≡ Some e → e.versions.store ≡ store_after edits.script project t
+store_of project t edits e k f = sym (ap (now_store project) f) ∙ k.store_is
+
+pub both_ok : (r : Result ⊤ NoMemory) (A B C : Type 0) → OnOk r A → OnOk r B → (A → B → C) → OnOk r C
+both_ok (Ok u) A B C a b f = f a b
+both_ok (Err e) A B C a b f = tt
+
+-- ---- which entries dispatch
+
+pub not_dispatched : (x : Entry) → ((n v : ℕ) → x ≡ entries.Dispatch n v → ⊥) → dispatched x ≡ None
+not_dispatched (entries.Dispatch n v) h = absurd (h n v refl)
+not_dispatched (entries.Block n k b) h = refl
+not_dispatched (entries.End n) h = refl
+not_dispatched (entries.Pick n k) h = refl
+not_dispatched (entries.Test n b) h = refl
+not_dispatched (entries.Assign n x) h = refl
+not_dispatched (entries.Set n) h = refl
+not_dispatched (entries.Pass n) h = refl
+not_dispatched (entries.Note n) h = refl
+not_dispatched (entries.Edit i w) h = refl
+
+pub go_on_none : (x : Entry) (old new : Option Editing) → old ≡ None → new ≡ None → GoOn x old new
+go_on_none x old new e f = subst (λ (o : Option Editing). GoOn x o new) (sym e) f
+
+pub none_there : (o : Option Editing) → ((e : Editing) → o ≡ Some e → ⊥) → o ≡ None
+none_there None h = refl
+none_there (Some e) h = absurd (h e refl)
+
+pub go_on_some : (x : Entry) (old new : Option Editing) (a b : Editing) → old ≡ Some a → new ≡ Some b → SentMore x a b → GoOn x old new
+go_on_some x old new a b e f g = subst (λ (o : Option Editing). GoOn x o new) (sym e) (b, f, g)
+
+pub sent_step : (o : Option Editing) (e : Editing) (n : ℕ) → o ≡ Some e → HasVersion o n → Contains e.sent.steps n
+sent_step o e n f h = (subst (λ (q : Option Editing). HasVersion q n) f h).1
+
+-- ---- what an edit that is accepted asks of what is kept
+
+pub item_verdict : (project : List Entity) (t : List Entry) (edits : Edits) (edit : Edit) (e : Editing) → AreKept project t edits → edits.editing ≡ Some e → slice_get edits.script edits.judged ≡ Some edit
+    → judge e.versions.store (store_steps project) (sent t) edit.items ≡ verdict_after edits.script project t edits.judged
+item_verdict project t edits edit e k f s =
+    ap (λ (store : List Entity). judge store (store_steps project) (sent t) edit.items) (store_of project t edits e k f)
+    ∙ ap (verdict_on (store_after edits.script project t) (store_steps project) (sent t)) (sym s)
+
+pub room_there : (project : List Entity) (t : List Entry) (edits : Edits) (edit : Edit) (e : Editing) → AreKept project t edits → edits.editing ≡ Some e → slice_get edits.script edits.judged ≡ Some edit
+    → new_instances e.versions.store edit.items ≤ e.versions.spare
+room_there project t edits edit e k f s =
+    (room_for e.versions.store edits.script (judged t) e.versions.spare edit (ap (slice_get edits.script) (sym k.count) ∙ s) (kept_of project t edits e k f).room).enough
+
+pub version_fits : (project : List Entity) (t : List Entry) (edits : Edits) (e : Editing) (n limit : ℕ) → AreKept project t edits → edits.editing ≡ Some e → edits.judged + 1 < limit → Contains e.versions.steps n
+    → version_of e.versions.versions n + 1 < limit
+version_fits project t edits e n limit k f l h =
+    let own = kept_of project t edits e k f in
+    let among : has (store_steps project) n ≡ true = contains_has (store_steps project) n (subst (λ (ns : List ℕ). Contains ns n) own.steps h) in
+    let same : version_of e.versions.versions n ≡ version_after edits.script project t n = sym (ap (λ (o : Option Editing). version_now o n) f) ∙ k.versions_are n among in
+    let low : version_after edits.script project t n ≤ judged t = version_low edits.script project n t in
+    let count = k.count in
+    omega (arith, same, low, count, l)
+
+pub index_small : (script : List Edit) (i : ℕ) (edit : Edit) → slice_get script i ≡ Some edit → i < length script
+index_small [] i edit e = absurd (none_some edit e)
+  where
+    none_some : (edit : Edit) → None ≡ Some edit → ⊥
+    none_some edit e = cc
+index_small (first ∷ script) zero edit e = omega arith
+index_small (first ∷ script) (suc i) edit e = let h = index_small script i edit e in omega (arith, h)
+
+-- ---- after the verdict on the next edit
+
+pub settles : (project : List Entity) (script : List Edit) (t : List Entry) (i : ℕ) (w : Verdict) → judged (t ++ entries.Edit i w ∷ []) ≡ judged t + 1
+    → store_after script project (t ++ entries.Edit i w ∷ []) ≡ store_by script (store_after script project t) (Judged i w)
+    → ((n : ℕ) → version_after script project (t ++ entries.Edit i w ∷ []) n ≡ version_after script project t n + rises_by script (store_after script project t) n (Judged i w))
+    → sent (t ++ entries.Edit i w ∷ []) ≡ sent t ++ [] → Settles project script t i w
+settles project script t i w a b c d = record { judged_more = a; store_more = b; version_more = c; sent_same = d }
+
+pub accepted_next : (project : List Entity) (t : List Entry) (old new : Edits) → new.script ≡ old.script → new.judged ≡ old.judged + 1 → PutsNext (slice_get old.script old.judged) old.editing new.editing
+    → ((store : List Entity) (steps sent : List ℕ) (items : List Entity) (n : ℕ) → judge store steps sent items ≡ Accepted → has steps n ≡ true → has_def store n ≡ true → has_def (put_items store items) n ≡ true)
+    → ((store : List Entity) (steps sent : List ℕ) (items : List Entity) (n : ℕ) → judge store steps sent items ≡ Accepted → is_workingstep (entity_at store) n ≡ true → is_workingstep (entity_at (put_items store items)) n ≡ true)
+    → Accepted ≡ verdict_after old.script project t old.judged → Settles project old.script t old.judged Accepted → AreKept project t old → AreKept project (t ++ entries.Edit old.judged Accepted ∷ []) new
+accepted_next project t old new scripts counts puts defs steps told m k = go (slice_get old.script old.judged) refl puts
+  where
+    go : (o : Option Edit) → slice_get old.script old.judged ≡ o → PutsNext o old.editing new.editing → AreKept project (t ++ entries.Edit old.judged Accepted ∷ []) new
+    go None e h = absurd h
+    go (Some edit) e h =
+        let is : judge h.0.versions.store (store_steps project) (sent t) edit.items ≡ Accepted = item_verdict project t old edit h.0 k h.2 e ∙ sym told in
+        accepted project t old new edit h.0 h.1 e scripts counts h.2 h.3 h.4
+        (λ n. defs h.0.versions.store (store_steps project) (sent t) edit.items n is) (λ n. steps h.0.versions.store (store_steps project) (sent t) edit.items n is) m k
+
+pub refused_next : (project : List Entity) (t : List Entry) (old new : Edits) (w : Verdict) (rule a b : ℕ) → w ≡ Refused rule a b → IsSome (slice_get old.script old.judged) → new.script ≡ old.script → new.judged ≡ old.judged + 1 → new.editing ≡ old.editing
+    → Settles project old.script t old.judged w → AreKept project t old → AreKept project (t ++ entries.Edit old.judged w ∷ []) new
+refused_next project t old new w rule a b e some scripts counts same m k =
+    subst (λ (v : Verdict). Settles project old.script t old.judged v → AreKept project (t ++ entries.Edit old.judged v ∷ []) new) (sym e) (λ n. go (slice_get old.script old.judged) refl some n) m
+  where
+    go : (o : Option Edit) → slice_get old.script old.judged ≡ o → IsSome o → Settles project old.script t old.judged (Refused rule a b) → AreKept project (t ++ entries.Edit old.judged (Refused rule a b) ∷ []) new
+    go None f h n = absurd (no_way h)
+    go (Some edit) f h n = refused project t old new edit rule a b f scripts counts same n k

@@ -15,7 +15,10 @@ use Rattle.project_law.specs.Script.{store_after}
 use Rattle.project_law.specs.ProjectRules.{store_steps, version_after}
 use Rattle.run_core.specs.declared.edits.Editing.{Editing}
 use Rattle.run_core.specs.declared.edits.Edits.{Edits}
-use Rattle.project_versions.specs.Versioned.{version_of}
+use Rattle.project_store.specs.Put.{put_items}
+use Rattle.project_versions.specs.Versioned.{version_of, new_instances}
+use Rattle.project_versions.specs.Versions.{one_where}
+use Rattle.project_versions.specs.Reach.{is_reached}
 
 -- the store as the edits left it: the project itself where there is no script
 abbrev pub now_store : List Entity → Option Editing → List Entity
@@ -67,3 +70,16 @@ pub record AreKept (project : List Entity) (t : List Entry) (edits : Edits) : Ty
 -- how many workingsteps the edit reaches in the store as the edits left it
 abbrev pub reached_by : List Entity → List Edit → List Entry → ℕ → ℕ
 reached_by project script t i = option_map_or (λ edit. length (reached (store_after script project t) (store_steps project) edit.items)) (slice_get script i) 0
+
+-- the edit is put: its items stand in the store, and the version of each step that it reaches is one more
+pub record IsPut (edit : Edit) (before after : Editing) : Type 0 where
+  pub sets : after.sent ≡ before.sent
+  pub stores : after.versions.store ≡ put_items before.versions.store edit.items
+  pub same_steps : after.versions.steps ≡ before.versions.steps
+  pub versions : (n : ℕ) → Contains before.versions.steps n → version_of after.versions.versions n ≡ version_of before.versions.versions n + one_where (is_reached before.versions.store edit.items n)
+  pub spares : after.versions.spare + new_instances before.versions.store edit.items ≡ before.versions.spare
+
+-- the next edit is put
+abbrev pub PutsNext : Option Edit → Option Editing → Option Editing → Type 0
+PutsNext None old new = ⊥
+PutsNext (Some edit) old new = (before : Editing) × (after : Editing) × (old ≡ Some before) × (new ≡ Some after) × IsPut edit before after

@@ -1,6 +1,6 @@
 //! The edits of a run's script, and what they did so far.
 
-ghost use Rattle.std.specs.Prelude.{◌≡◌, ◌≤◌, ◌+◌, ◌*◌, ◌++◌, ◌∷◌, [], ℕ, true, List, length, slice_get, is_none, Some, IsSome, IfSome, IfOk, OnOk, OnErr};
+ghost use Rattle.std.specs.Prelude.{◌≡◌, ◌<◌, ◌≤◌, ◌+◌, ◌^◌, ◌++◌, ◌∷◌, [], ℕ, true, false, List, slice_get, is_none, None, IsSome, IfSome, IfOk, OnOk, OnErr, IsTrue, Contains};
 ghost use Rattle.std.specs.List.{list_all};
 ghost use Rattle.entity_types.specs.declared.entity.Entity.{Entity as EntitySeen};
 ghost use Rattle.run_log.specs.declared.entry.Entry.{Entry as EntrySeen};
@@ -8,10 +8,14 @@ ghost use Rattle.run_log.specs.declared.entry.Entry.TheVariants as entries;
 ghost use Rattle.project_store.specs.Entities.{entity_at};
 ghost use Rattle.step_def.specs.Condition.{is_workingstep};
 ghost use Rattle.exec_tree.specs.Built.{steps_in};
+ghost use Rattle.project_store.specs.Putting.{CanPut};
+ghost use Rattle.project_versions.specs.Versioned.{version_of, new_instances};
+ghost use Rattle.project_versions.specs.StepSet.{Adds};
 ghost use Rattle.run_law.specs.Fits.{is_plain, judged};
 ghost use Rattle.edit_rules.specs.Faults.{has_def};
 ghost use Rattle.project_law.specs.ProjectRules.{store_steps, verdict_after};
-ghost use Rattle.run_core.specs.Edits.{now_store, version_now, HasVersion, due_by, items_in, reached_by, IsOpening, AreKept};
+ghost use Rattle.nc_base.specs.declared.verdict.Verdict.TheVariants.{Accepted};
+ghost use Rattle.run_core.specs.Edits.{now_store, version_now, HasVersion, due_by, items_in, reached_by, IsOpening, IsPut, PutsNext, AreKept};
 
 use edit_rules::judge;
 use edit_rules::laws::accepted_edits_keep_a_project;
@@ -72,6 +76,30 @@ fn editing_of(
     let versions = Versions::new(alloc, store.copy(alloc)?, steps, more)?;
     let sent = StepSet::new(alloc, steps)?;
     Ok(Some(Editing { versions, sent }))
+}
+
+/// What is kept with one more step dispatched.
+fn with_step(editing: Editing, step: Number) -> Editing
+    requires { Contains editing.sent.steps step }
+    ensures versions { result.versions ≡ editing.versions }
+    ensures sent { Adds editing.sent result.sent step }
+{
+    let mut editing = editing;
+    editing.sent.add(step);
+    editing
+}
+
+/// What is kept with an edit put, and whether memory sufficed: where it didn't all is as it was.
+fn with_edit(editing: Editing, alloc: Global, edit: Edit) -> (Editing, bool)
+    requires items { CanPut editing.versions.store edit.items }
+    requires room { new_instances editing.versions.store edit.items ≤ editing.versions.spare }
+    requires versions { (n : ℕ) → Contains editing.versions.steps n → version_of editing.versions.versions n + 1 < 2 ^ 32 }
+    ensures put { IsTrue result.1 → IsPut edit editing result.0 }
+    ensures kept { result.1 ≡ false → result.0 ≡ editing }
+{
+    let mut editing = editing;
+    let is_put = editing.versions.put(alloc, edit).is_ok();
+    (editing, is_put)
 }
 
 impl Edits {
@@ -143,10 +171,11 @@ impl Edits {
     {
         project_rules_move();
         logs_move();
-        if let Entry::Dispatch { n, .. } = entry
-            && let Some(editing) = &mut self.editing
-        {
-            editing.sent.add(*n);
+        let Entry::Dispatch { n, .. } = *entry else {
+            return;
+        };
+        if let Some(editing) = self.editing.take() {
+            self.editing = Some(with_step(editing, n));
         }
     }
 
@@ -171,6 +200,52 @@ impl Edits {
         }
     }
 
+    /// A script has no more edits than 32 bits can say, so the index of each can be raised.
+    fn index_fits(&self)
+        requires { IsSome (slice_get self.now.script self.now.judged) }
+        ensures { self.now.judged + 1 < 2 ^ 32 }
+    {
+        let _ = self.script.len();
+    }
+
+    /// Goes past the next edit, which is judged.
+    fn pass(&mut self)
+        requires { IsSome (slice_get self.old.script self.old.judged) }
+        ensures script { self.new.script ≡ self.old.script }
+        ensures judged { self.new.judged ≡ self.old.judged + 1 }
+        ensures editing { self.new.editing ≡ self.old.editing }
+    {
+        self.index_fits();
+        self.judged += 1;
+    }
+
+    /// Puts the next edit, which is accepted.
+    ///
+    /// # Errors
+    /// `NoMemory` where there is none for the edit; all is then as it was.
+    fn accept(&mut self, alloc: Global) -> Result<(), NoMemory>
+        requires kept { (project : List EntitySeen) × (t : List EntrySeen) × AreKept project t self.old × (verdict_after self.old.script project t self.old.judged ≡ Accepted) }
+        requires next { IsSome (slice_get self.old.script self.old.judged) }
+        ensures script { self.new.script ≡ self.old.script }
+        ensures judged { OnOk result (self.new.judged ≡ self.old.judged + 1) }
+        ensures put { OnOk result (PutsNext (slice_get self.old.script self.old.judged) self.old.editing self.new.editing) }
+        ensures err { OnErr result (self.new ≡ self.old) }
+    {
+        accepted_edits_keep_a_project();
+        self.index_fits();
+        let edit = self.script.at(self.judged).copy(alloc)?;
+        let Some(editing) = self.editing.take() else {
+            unreachable!()
+        };
+        let (editing, is_put) = with_edit(editing, alloc, edit);
+        self.editing = Some(editing);
+        if !is_put {
+            return Err(NoMemory);
+        }
+        self.pass();
+        Ok(())
+    }
+
     /// Takes the verdict on the next edit: where it is accepted the edit is put.
     ///
     /// # Errors
@@ -186,15 +261,12 @@ impl Edits {
         project_rules_move();
         logs_move();
         accepted_edits_keep_a_project();
-        if verdict == Verdict::Accepted {
-            let edit = self.script.at(self.judged).copy(alloc)?;
-            if let Some(editing) = &mut self.editing
-                && editing.versions.put(alloc, edit).is_err()
-            {
-                return Err(NoMemory);
+        match verdict {
+            Verdict::Accepted => self.accept(alloc),
+            Verdict::Refused { .. } => {
+                self.pass();
+                Ok(())
             }
         }
-        self.judged += 1;
-        Ok(())
     }
 }

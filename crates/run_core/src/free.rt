@@ -56,7 +56,12 @@ impl Model for FreeCore {
 
 impl FreeCore {
     /// A core with an empty log.
-    pub fn open(alloc: Global, project: Project, script: Script, limit: u32) -> Result<FreeCore, NoMemory>
+    pub fn open(
+        alloc: Global,
+        project: Project,
+        script: Script,
+        limit: u32,
+    ) -> Result<FreeCore, NoMemory>
         requires { (1 ≤ limit) × (limit ≤ MAX_ENTRIES) }
         ensures { IfOk result (λ core. core ≡ record { project = project; script = script; limit = limit; log = []; actors = [] }) }
     {

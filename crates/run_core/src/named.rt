@@ -71,7 +71,12 @@ impl<N: RunName> RunCore<N> {
     ///
     /// # Errors
     /// `NoMemory` where there is none.
-    pub fn open(alloc: Global, project: Project, script: Script, limit: u32) -> Result<RunCore<N>, NoMemory>
+    pub fn open(
+        alloc: Global,
+        project: Project,
+        script: Script,
+        limit: u32,
+    ) -> Result<RunCore<N>, NoMemory>
         requires limited { (1 ≤ limit) × (limit ≤ MAX_ENTRIES) }
         requires project { project ≡ N.project }
         requires script { script ≡ N.script }

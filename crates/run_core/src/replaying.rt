@@ -18,7 +18,7 @@ use crate::standings::{Standing, is_over};
 use edit_rules::Project;
 use entity_types::Script;
 use nc_base::{NoMemory, Steps};
-use project_law::laws::{project_rules_are_sound};
+use project_law::laws::project_rules_are_sound;
 use run_law::laws::{endings_by_next, replay_ends};
 use run_log::{Ending, Entry, Log};
 use std::alloc::Global;

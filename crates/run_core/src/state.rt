@@ -141,12 +141,7 @@ fn pick(n: Number, index: usize) -> Result<Entry, NoMemory>
 }
 
 /// The plan of a step that starts, by its definition in the store as it is now.
-fn plan_by(
-    alloc: Global,
-    store: &Store,
-    n: Number,
-    deed: Deed,
-) -> Result<Option<Plan>, NoMemory>
+fn plan_by(alloc: Global, store: &Store, n: Number, deed: Deed) -> Result<Option<Plan>, NoMemory>
     requires { deed ≡ Starts → is_workingstep (entity_at store.now) n ≡ true }
     ensures { IfOk result (λ plan. plan ≡ plan_by store.now n deed) }
 {
@@ -210,7 +205,12 @@ fn channel_of(tree: &Tree, entry: &Entry) -> u8
 
 impl RunState {
     /// The state of a run of a project and a script before its first entry, with room for so many.
-    pub fn open(alloc: Global, project: Project, script: Script, limit: u32) -> Result<RunState, NoMemory>
+    pub fn open(
+        alloc: Global,
+        project: Project,
+        script: Script,
+        limit: u32,
+    ) -> Result<RunState, NoMemory>
         ensures project { IfOk result (λ state. state.project ≡ project) }
         ensures script { IfOk result (λ state. state.script ≡ script) }
         ensures list { IfOk result (λ state. state.list ≡ []) }
@@ -384,11 +384,7 @@ impl RunState {
     }
 
     /// The verdict on the next edit, which is due. It changes nothing.
-    pub fn judge<L: Ledger>(
-        &self,
-        alloc: Global,
-        steps: &mut Steps<L>,
-    ) -> Result<Verdict, NoMemory>
+    pub fn judge<L: Ledger>(&self, alloc: Global, steps: &mut Steps<L>) -> Result<Verdict, NoMemory>
         requires due { is_due (rules_of self.now.project self.now.script) self.now.list ≡ true }
         ensures verdict { IfOk result (λ verdict. verdict ≡ (rules_of self.now.project self.now.script).verdict self.now.list (judged self.now.list)) }
         ensures ticks { steps.new ≤ steps.old + reached_by self.now.project self.now.script self.now.list (judged self.now.list) }

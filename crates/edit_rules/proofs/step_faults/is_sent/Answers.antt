@@ -1,4 +1,4 @@
-use Rattle.edit_rules.proofs.JudgingLemmas.{decides}
+use Rattle.edit_rules.proofs.VerdictLemmas.{decides}
 use Rattle.edit_rules.proofs.step_faults.is_sent.Goals as goal
 
 pub returns : goal.returns

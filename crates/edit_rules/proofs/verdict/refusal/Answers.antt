@@ -4,7 +4,7 @@ use Rattle.exec_tree.specs.Built.{steps_in}
 use Rattle.project_versions.specs.Versioned.{AreReached}
 use Rattle.edit_rules.specs.Judge.{sent_fault, refused_step}
 use Rattle.edit_rules.specs.Judging.{first_step}
-use Rattle.edit_rules.proofs.JudgingLemmas.{nothing_refused, reached_steps_stay, sent_refuses, faulty_refuses, reached_few, not_early}
+use Rattle.edit_rules.proofs.VerdictLemmas.{nothing_refused, reached_steps_stay, sent_refuses, faulty_refuses, reached_few, not_early}
 use Rattle.edit_rules.proofs.verdict.refusal.Goals as goal
 
 pub returns-in-Some-first_sent-clause-refusal : goal.returns-in-Some-first_sent-clause-refusal

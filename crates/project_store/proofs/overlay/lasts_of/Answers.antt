@@ -1,4 +1,4 @@
-use Rattle.std.proofs.Common.{◌≡◌, ℕ, ◌+◌, ◌<◌, ◌==◌, Bool, true, false, cond, List, [], ◌∷◌, ◌++◌, length, take, get_or, Option, Some, sym, ap, subst, ◌∙◌, arith}
+use Rattle.std.proofs.Common.{◌≡◌, ℕ, ◌+◌, ◌<◌, ◌==◌, Bool, cond, List, [], ◌∷◌, ◌++◌, length, take, Option, Some, sym, ap, ◌∙◌, arith}
 use Rattle.std.specs.Prelude.{slice_get}
 use Rattle.std.specs.BTreeMap.{get, is_at}
 use Rattle.std.specs.Ordering.{nat_cmp}
@@ -32,5 +32,5 @@ loop-i-preserved c = λ n.
     let x = c.at.result.now in
     let i = c.loop-i.i in
     let updated : get nat_cmp c.insert.new.self n ≡ cond (n == x.number) (Some i) (get nat_cmp c.loop-i.lasts n) =
-        c.in_ok-insert.ensures.updates.0 n ∙ ap (λ (b : Bool). cond b (Some i) (get nat_cmp c.loop-i.lasts n)) (same_test x.number n) in
+    c.in_ok-insert.ensures.updates.0 n ∙ ap (λ (b : Bool). cond b (Some i) (get nat_cmp c.loop-i.lasts n)) (same_test x.number n) in
     more c.args.items.now i n x (get nat_cmp c.loop-i.lasts n) (get nat_cmp c.insert.new.self n) c.at.ensures updated (c.loop-i.invariant n)

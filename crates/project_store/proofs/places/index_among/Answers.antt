@@ -1,4 +1,4 @@
-use Rattle.std.proofs.Common.{◌≡◌, ℕ, ◌++◌, List, Option, Some, None, ◌⊎◌, inl, inr, IfSome, IfNone, Contains}
+use Rattle.std.proofs.Common.{◌≡◌, ℕ, ◌++◌, List, Option, Some, None, inl, inr, IfSome, IfNone, Contains}
 use Rattle.std.proofs.lemmas.List.Elements.{Contains-append_right, Contains-append_cases}
 use Rattle.project_store.specs.declared.places.Place.{Place}
 use Rattle.project_store.specs.Places.{place_at}

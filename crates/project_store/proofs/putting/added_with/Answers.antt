@@ -1,4 +1,4 @@
-use Rattle.std.proofs.Common.{◌≡◌, ◌++◌, List, length, drop, sym, ap, subst, ◌∙◌}
+use Rattle.std.proofs.Common.{◌≡◌, ◌++◌, List, length, drop, subst}
 use Rattle.std.specs.Prelude.{IfOk}
 use Rattle.std.specs.List.Sorted.{IsPermutation}
 use Rattle.project_store.specs.declared.places.Place.{Place}
@@ -12,5 +12,5 @@ returns-clause-all c =
     let store = c.args.index.now in
     let put = put_items store c.args.items.now in
     let same : number_places c.len.result c.as_slice.result.now ≡ places_from (length store) (drop (length store) put) =
-        rw (c.len.ensures.len, c.as_slice.ensures.value) (places_behind store put c.in_ok-numbers.numbers.items c.in_ok-numbers.ensures) in
+    rw (c.len.ensures.len, c.as_slice.ensures.value) (places_behind store put c.in_ok-numbers.numbers.items c.in_ok-numbers.ensures) in
     subst (λ (ps : List Place). IfOk c.places_with.result (λ all. IsPermutation (c.args.added.now ++ ps) all.items)) same c.places_with.ensures.all

@@ -1,9 +1,9 @@
-use Rattle.std.proofs.Common.{◌≡◌, ℕ, ◌+◌, ◌<◌, ◌≤◌, List, [], ◌∷◌, ◌++◌, length, reverse, Option, Some, None, refl, sym, ap, subst, ◌∙◌, arith, rules, length-append, Contains}
-use Rattle.std.specs.Prelude.{slice_set, vec_len, vec_capacity}
+use Rattle.std.proofs.Common.{◌≡◌, ℕ, ◌<◌, ◌≤◌, List, [], ◌∷◌, ◌++◌, length, reverse, None, sym, ap, ◌∙◌, arith, rules, length-append, Contains}
+use Rattle.std.specs.Prelude.{slice_set}
 use Rattle.std.proofs.lemmas.List.{reverse-append}
 use Rattle.entity_types.specs.declared.entity.Entity.{Entity}
 use Rattle.project_store.specs.declared.places.Place.{Place}
-use Rattle.project_store.specs.Entities.{entity_at, numbers_of}
+use Rattle.project_store.specs.Entities.{entity_at}
 use Rattle.project_store.specs.Places.{IsIndex, IsAt, place_at}
 use Rattle.project_store.specs.Put.{put_in, put_items}
 use Rattle.project_store.proofs.PlaceLemmas.{leads, leads_nowhere}
@@ -47,15 +47,15 @@ loop-item-preserved c =
     let x = c.in-Some.item in
     let index : IsIndex c.args.opening.now c.args.added.now (put_items es (reverse left)) = rw c.loop-item.invariant.same c.requires.index in
     let none : entity_at es x.number ≡ None =
-        elim c.in_default-index_among.branch [
-          | in_default-index_among-via-in-Some-index_among+else-i-len w ↦ (
-            let at = leads c.args.opening.now c.args.added.now (put_items es (reverse left)) x.number w.in-Some-index_among.i index w.in-Some-index_among.ensures.found in
-            let le : length es ≤ w.in-Some-index_among.i = search rules in
-            not_before es (reverse left) x.number w.in-Some-index_among.i index.distinct at le)
-          | in_default-index_among-via-in_default-index_among w ↦ (
-            let never : (p : Place) → Contains (c.args.opening.now ++ c.args.added.now) p → p.number ≡ x.number → ⊥ = w.in_default-index_among.ensures.none in
-            nowhere_before es (reverse left) x.number index.distinct (leads_nowhere c.args.opening.now c.args.added.now (put_items es (reverse left)) x.number index never))
-        ] in
+    elim c.in_default-index_among.branch [
+      | in_default-index_among-via-in-Some-index_among+else-i-len w ↦ (
+          let at = leads c.args.opening.now c.args.added.now (put_items es (reverse left)) x.number w.in-Some-index_among.i index w.in-Some-index_among.ensures.found in
+          let le : length es ≤ w.in-Some-index_among.i = search rules in
+          not_before es (reverse left) x.number w.in-Some-index_among.i index.distinct at le)
+      | in_default-index_among-via-in_default-index_among w ↦ (
+          let never : (p : Place) → Contains (c.args.opening.now ++ c.args.added.now) p → p.number ≡ x.number → ⊥ = w.in_default-index_among.ensures.none in
+          nowhere_before es (reverse left) x.number index.distinct (leads_nowhere c.args.opening.now c.args.added.now (put_items es (reverse left)) x.number index never))
+    ] in
     record {
       same = ap (λ (l : List Entity). put_items l (reverse rest)) c.push_reserved.ensures.items ∙ comes_last es left rest x c.in-Some.ensures.items none ∙ c.loop-item.invariant.same;
       reserved = omega (arith, c.loop-item.invariant.reserved, ap length c.in-Some.ensures.items, length-append rest (x ∷ []), c.push_reserved.ensures.len, c.push_reserved.ensures.capacity);

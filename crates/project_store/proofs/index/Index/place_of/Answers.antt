@@ -13,9 +13,10 @@ abbrev Found : List Place → ℕ → Option ℕ → Type 0
 Found places n o = IfSome o (λ i. Contains places (place_at n i)) × IfNone o ((p : Place) → Contains places p → p.number ≡ n → ⊥)
 
 exactly : (opening added : List Place) (es : List Entity) (n : ℕ) (o : Option ℕ) → IsIndex opening added es → Found (opening ++ added) n o → (i : ℕ) → (o ≡ Some i) ↔ IsAt es n i
-exactly opening added es n None index h i =
-    (λ e. absurd (let no : ⊥ = cc in no),
-    λ at. absurd (let both : None ≡ Some at.0 = sym (leads_nowhere opening added es n index h.1) ∙ at_found es n i index.distinct at in let no : ⊥ = cc in no))
+exactly opening added es n None index h i = (
+  λ e. absurd (let no : ⊥ = cc in no),
+  λ at. absurd (let both : None ≡ Some at.0 = sym (leads_nowhere opening added es n index h.1) ∙ at_found es n i index.distinct at in let no : ⊥ = cc in no),
+)
 exactly opening added es n (Some j) index h i =
     let at : IsAt es n j = leads opening added es n j index h.0 in
     (λ e. (let same : j ≡ i = cc in subst (IsAt es n) same at), λ there. ap Some (at_one_place es n j i index.distinct at there))

@@ -1,8 +1,8 @@
-use Rattle.std.proofs.Common.{◌≡◌, ℕ, ◌<◌, List, length, Option, Some, None, sym, ap, subst, ◌∙◌}
+use Rattle.std.proofs.Common.{◌≡◌, Some, None, sym, ap, ◌∙◌}
 use Rattle.std.specs.Option.{option_or}
 use Rattle.project_store.specs.Entities.{entity_at}
 use Rattle.project_store.specs.Lasts.{last_place}
-use Rattle.project_store.specs.Put.{put_all, last_of}
+use Rattle.project_store.specs.Put.{last_of}
 use Rattle.project_store.proofs.PutLemmas.{put_all-last_of}
 use Rattle.project_store.proofs.LastLemmas.{IsLastAt, last_there, last_nowhere, last_within}
 use Rattle.project_store.proofs.overlay.OverlayEntities.get.Goals as goal

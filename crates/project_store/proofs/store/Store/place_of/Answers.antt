@@ -1,5 +1,3 @@
-use Rattle.std.proofs.Common.{subst}
-use Rattle.project_store.specs.Places.{IsAt}
 use Rattle.project_store.proofs.store.Store.place_of.Goals as goal
 
 pub returns-clause-found : goal.returns-clause-found

@@ -1,4 +1,4 @@
-use Rattle.std.proofs.Common.{◌≡◌, nat_eq, List, Result, Ok, Err, None, sym, subst, ◌∙◌, ap}
+use Rattle.std.proofs.Common.{◌≡◌, nat_eq, List, Result, Ok, Err, None, sym, subst}
 use Rattle.std.specs.Prelude.{OnOk, OnErr}
 use Rattle.std.specs.List.{IsDistinct}
 use Rattle.entity_types.specs.declared.entity.Entity.{Entity}

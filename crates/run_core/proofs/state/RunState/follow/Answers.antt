@@ -83,10 +83,9 @@ invariant_of-self c =
     (c.channel_of-channel.ensures ∙ (ap (λ (o : Option ℕ). option_map_or (λ m. channel_in c.self.inside.tree.nodes m) o 0) of_node.number
     ∙ c.trees_tell.ensures.channels nothing_seen (entity_at p) (main_of p) n c.self.inside.tree k.tree_is))
     c.follow.ensures in
-    let logged : c.push_reserved.new.self.items ≡ t ++ x ∷ [] = c.push_reserved.ensures.items in
-    (
+    let logged : c.push_reserved.new.self.items ≡ t ++ x ∷ [] = c.push_reserved.ensures.items in (
       subst (λ (r : List ScriptEdit). IsState p r c.self.inside.tree c.advance.new.self c.push_reserved.new.self.items c.follow-3.new.marks c.follow-4.new.vars c.follow.new.self) (sym c.follow-2.ensures.script)
-      (subst (λ (w : List Entry). IsState p s c.self.inside.tree c.advance.new.self w c.follow-3.new.marks c.follow-4.new.vars c.follow.new.self) (sym logged) kept),
+          (subst (λ (w : List Entry). IsState p s c.self.inside.tree c.advance.new.self w c.follow-3.new.marks c.follow-4.new.vars c.follow.new.self) (sym logged) kept),
       subst (λ (w : List Entry). AreKept p w c.follow-2.new.self) (sym logged) (c.follow-2.ensures.kept p t c.self.invariant.1),
     )
 

@@ -50,10 +50,9 @@ invariant_of-result c =
       steps_are = none_open (rules_of p s) c.in_ok-steps.steps c.in_ok-steps.ensures;
     } in
     let frames = c.in_ok-frames.frames in
-    let listed : c.in_ok-log.log.items ≡ [] = c.in_ok-log.ensures.items in
-    (
+    let listed : c.in_ok-log.log.items ≡ [] = c.in_ok-log.ensures.items in (
       subst (λ (q : List Entity). IsState q c.in_ok-edits.edits.script tree frames c.in_ok-log.log.items c.in_ok-marks.marks c.in_ok-vars.vars c.in_ok-steps.steps) (sym c.parts-store.ensures.store)
-      (subst (λ (r : List Edit). IsState p r tree frames c.in_ok-log.log.items c.in_ok-marks.marks c.in_ok-vars.vars c.in_ok-steps.steps) (sym c.in_ok-edits.ensures.script)
-      (subst (λ (u : List Entry). IsState p s tree frames u c.in_ok-marks.marks c.in_ok-vars.vars c.in_ok-steps.steps) (sym listed) kept)),
+          (subst (λ (r : List Edit). IsState p r tree frames c.in_ok-log.log.items c.in_ok-marks.marks c.in_ok-vars.vars c.in_ok-steps.steps) (sym c.in_ok-edits.ensures.script)
+          (subst (λ (u : List Entry). IsState p s tree frames u c.in_ok-marks.marks c.in_ok-vars.vars c.in_ok-steps.steps) (sym listed) kept)),
       subst (λ (u : List Entry). AreKept c.parts-store.result.0 u c.in_ok-edits.edits) (sym listed) c.in_ok-edits.ensures.kept,
     )

@@ -27,9 +27,8 @@ invariant_of-self-2 c =
     let later = t ++ Edit i w ∷ [] in
     let kept = edit_follows p s c.self.inside.tree c.self.inside.frames t c.self.inside.marks c.self.inside.vars c.self.inside.steps i w k legal (c.logs_move.ensures.edit t i w).0 (c.logs_move.ensures.marks t (Edit i w))
     (λ v. c.project_rules_move.ensures.vars p s t (Edit i w) v) (λ n. c.logs_move.ensures.stage t (Edit i w) n) (λ n. c.project_rules_move.ensures.kept p s t (Edit i w) n refl) in
-    let logged : c.push_reserved.new.self.items ≡ later = c.push_reserved.ensures.items in
-    (
+    let logged : c.push_reserved.new.self.items ≡ later = c.push_reserved.ensures.items in (
       subst (λ (r : List ScriptEdit). IsState p r c.self.inside.tree c.self.inside.frames c.push_reserved.new.self.items c.self.inside.marks c.self.inside.vars c.self.inside.steps) (sym c.in_ok-settle.ensures.script)
-      (subst (λ (u : List Entry). IsState p s c.self.inside.tree c.self.inside.frames u c.self.inside.marks c.self.inside.vars c.self.inside.steps) (sym logged) kept),
+          (subst (λ (u : List Entry). IsState p s c.self.inside.tree c.self.inside.frames u c.self.inside.marks c.self.inside.vars c.self.inside.steps) (sym logged) kept),
       subst (λ (u : List Entry). AreKept p u c.settle.new.self) (sym logged) (c.in_ok-settle.ensures.kept p t e own),
     )

@@ -1,20 +1,22 @@
 -- How an edit is judged by the steps that it reaches, in order of number.
-use Rattle.std.specs.Prelude.{◌≡◌, ℕ, zero, suc, ◌+◌, ◌<◌, ◌≤◌, Bool, true, false, ◌&&◌, ◌||◌, ◌==◌, ◌↔◌, Contains, IsTrue, IsSome, List, [], ◌∷◌, length, filter, Option, Some, None, option_map, ◌⊎◌}
+use Rattle.std.specs.Prelude.{◌≡◌, ℕ, zero, suc, ◌+◌, ◌<◌, ◌≤◌, Bool, true, false, ◌&&◌, ◌||◌, ◌==◌, ◌↔◌, Contains, IsTrue, IsSome, List, [], ◌∷◌, length, filter, Option, Some, None, option_map, unwrap_or, if◌then◌else◌, ◌⊎◌}
 use Rattle.std.specs.Option.{option_or}
 use Rattle.std.specs.List.{list_all}
 use Rattle.std.proofs.Common.{refl, sym, ap, subst, ◌∙◌, arith, get_or, inl, inr}
 use Rattle.std.proofs.lemmas.Bool.Decides.{nat_tests}
 use Rattle.nc_base.specs.declared.verdict.Verdict.{Verdict}
+use Rattle.nc_base.specs.declared.verdict.Verdict.TheVariants.{Accepted}
 use Rattle.entity_types.specs.declared.entity.Entity.{Entity}
 use Rattle.project_store.specs.Entities.{entity_at}
+use Rattle.project_store.specs.Build.{lesser}
 use Rattle.step_def.specs.Condition.{is_workingstep}
 use Rattle.exec_tree.specs.Exec.{has}
 use Rattle.project_versions.specs.Reach.{after, is_reached}
 use Rattle.project_versions.specs.Versioned.{AreReached}
-use Rattle.edit_rules.specs.Judge.{least_step, sent_fault, step_fault, reached, touched, refused_step, j1, j2, j3, j4, j5, first_refusal}
+use Rattle.edit_rules.specs.Judge.{least_step, sent_fault, step_fault, reached, touched, refused_step, j1, j2, j3, j4, j5, first_refusal, judge}
 use Rattle.edit_rules.specs.Judging.{first_step, item_refusal, early_refusal}
 use Rattle.edit_rules.proofs.JudgeLemmas.{no_way, or_none, kept_in, same_steps}
-use Rattle.edit_rules.proofs.FirstLemmas.{AreSame, first_is_least, few, split, later, here}
+use Rattle.edit_rules.proofs.StepFaultLemmas.{AreSame, first_is_least, few, split, later, here}
 use Rattle.edit_rules.proofs.AcceptLemmas.{and_both, steps_stay}
 
 -- ---- members, by a test and by their places
@@ -138,3 +140,19 @@ third_none store items none = (or_none (j2 store items) (j3 store items) (or_non
 
 pub nothing_refused : (s t : List Entity) (items : List Entity) (r : Option Verdict) → s ≡ t → r ≡ item_refusal s items → r ≡ None → item_refusal t items ≡ None
 nothing_refused s t items r e f n = subst (λ x. item_refusal x items ≡ None) e (sym f ∙ n)
+
+-- ---- what is asked of the steps that were dispatched
+
+same_least : (f g : ℕ → Option ℕ) (ns : List ℕ) → ((n : ℕ) → f n ≡ g n) → least_step f ns ≡ least_step g ns
+same_least f g [] same = refl
+same_least f g (n ∷ ns) same =
+    ap (λ o. lesser (option_map {U = ℕ × ℕ} (λ fault. (n, fault)) o) (least_step f ns)) (same n) ∙ ap (lesser (option_map {U = ℕ × ℕ} (λ fault. (n, fault)) (g n))) (same_least f g ns same)
+
+same_members : (ns ms : List ℕ) (n : ℕ) → (Contains ns n ↔ Contains ms n) → has ns n ≡ has ms n
+same_members ns ms n same = decides (has ns n) ms n (λ e. same.0 (contains_from ns n e), λ c. has_from ns n (same.1 c))
+
+-- a verdict asks only which steps were dispatched, not how often or in which order
+pub same_verdict : (store : List Entity) (steps sent others : List ℕ) (items : List Entity) → ((n : ℕ) → Contains sent n ↔ Contains others n) → judge store steps sent items ≡ judge store steps others items
+same_verdict store steps sent others items same =
+    ap (λ o. unwrap_or (option_or (j1 store items) (option_or (j2 store items) (option_or (j3 store items) (option_or (option_map (refused_step 4) o) (j5 store steps steps items))))) Accepted)
+    (same_least (sent_fault sent) (sent_fault others) (reached store steps items) (λ n. ap (λ b. if b then Some 0 else None) (same_members sent others n (same n))))
