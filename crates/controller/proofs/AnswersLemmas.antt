@@ -243,8 +243,10 @@ of_no_script ws holds x reason told is text = record {
   given = NoScript reason;
   read = (
     (is.project, project_given ws holds is.name is.script is.schedule is.limit is.project told is.asked is.held),
-    is.unscripted.named,
-    told_of (λ bytes. RefusesScript bytes reason) (holds is.script) (told is.script (inr (inl (is.name, is.schedule, is.limit, is.asked, is.unscripted.named)))) is.unscripted.refused,
+    (
+      is.unscripted.named,
+      told_of (λ bytes. RefusesScript bytes reason) (holds is.script) (told is.script (inr (inl (is.name, is.schedule, is.limit, is.asked, is.unscripted.named)))) is.unscripted.refused,
+    ),
   );
   follows = (refl, text);
 }
@@ -258,8 +260,10 @@ of_no_schedule ws holds x reason told is text = record {
   read = (
     (is.project, project_given ws holds is.name is.script is.schedule is.limit is.project told is.asked is.held),
     (is.edits, script_given ws holds is.name is.script is.schedule is.limit is.edits told is.asked is.scripted),
-    is.unscheduled.named,
-    told_of (λ bytes. RefusesSchedule bytes reason) (holds is.schedule) (told is.schedule (inr (inr (is.name, is.script, is.limit, is.asked, is.unscheduled.named)))) is.unscheduled.refused,
+    (
+      is.unscheduled.named,
+      told_of (λ bytes. RefusesSchedule bytes reason) (holds is.schedule) (told is.schedule (inr (inr (is.name, is.script, is.limit, is.asked, is.unscheduled.named)))) is.unscheduled.refused,
+    ),
   );
   follows = (refl, text);
 }
@@ -320,10 +324,10 @@ same_schedule false held a b h k = h.2.channels_are ∙ sym (subst (λ (bytes : 
 
 no_schedule : (hyphen : Bool) (held : Option (List ℕ)) (channels : List ℕ) (reason : ScriptReason) → GivesSchedule hyphen held channels → GivesNone (hyphen, held) (λ bytes. RefusesSchedule bytes reason) → ⊥
 no_schedule true held channels reason h k = let named = k.0 in absurd (cc)
-no_schedule false held channels reason h k = not_both h.0 channels reason h.2 (subst (λ (bytes : List ℕ). RefusesSchedule bytes reason) (same_bytes held k.1 h.0 k.2 h.1) k.3)
+no_schedule false held channels reason h k = not_both h.0 channels reason h.2 (subst (λ (bytes : List ℕ). RefusesSchedule bytes reason) (same_bytes held k.1.0 h.0 k.1.1 h.1) k.1.2)
 
 no_turns : (held : Option (List ℕ)) (hyphen : Bool) (r q : ScriptReason) → GivesNone (hyphen, held) (λ bytes. RefusesSchedule bytes r) → GivesNone (hyphen, held) (λ bytes. RefusesSchedule bytes q) → r ≡ q
-no_turns held hyphen r q h k = same_refusal h.1 r q h.3 (subst (λ (bytes : List ℕ). RefusesSchedule bytes q) (same_bytes held k.1 h.1 k.2 h.2) k.3)
+no_turns held hyphen r q h k = same_refusal h.1.0 r q h.1.2 (subst (λ (bytes : List ℕ). RefusesSchedule bytes q) (same_bytes held k.1.0 h.1.0 k.1.1 h.1.1) k.1.2)
 
 -- a text is one script, or none for one reason
 same_reason : Laws → (bytes : List ℕ) (r s : ScriptReason) → RefusesScript bytes r → RefusesScript bytes s → r ≡ s
@@ -347,10 +351,10 @@ same_script laws false held a b h k =
 
 no_script : Laws → (hyphen : Bool) (held : Option (List ℕ)) (edits : List Edit) (reason : ScriptReason) → GivesScript hyphen held edits → GivesNone (hyphen, held) (λ bytes. RefusesScript bytes reason) → ⊥
 no_script laws true held edits reason h k = let named = k.0 in absurd (cc)
-no_script laws false held edits reason h k = not_edits laws h.0 edits reason h.2 (subst (λ (bytes : List ℕ). RefusesScript bytes reason) (same_bytes held k.1 h.0 k.2 h.1) k.3)
+no_script laws false held edits reason h k = not_edits laws h.0 edits reason h.2 (subst (λ (bytes : List ℕ). RefusesScript bytes reason) (same_bytes held k.1.0 h.0 k.1.1 h.1) k.1.2)
 
 no_edits : Laws → (held : Option (List ℕ)) (hyphen : Bool) (r q : ScriptReason) → GivesNone (hyphen, held) (λ bytes. RefusesScript bytes r) → GivesNone (hyphen, held) (λ bytes. RefusesScript bytes q) → r ≡ q
-no_edits laws held hyphen r q h k = same_reason laws h.1 r q h.3 (subst (λ (bytes : List ℕ). RefusesScript bytes q) (same_bytes held k.1 h.1 k.2 h.2) k.3)
+no_edits laws held hyphen r q h k = same_reason laws h.1.0 r q h.1.2 (subst (λ (bytes : List ℕ). RefusesScript bytes q) (same_bytes held k.1.0 h.1.0 k.1.1 h.1.1) k.1.2)
 
 -- a file that is told holds one project, or none
 same_project : Laws → (held : Option (List ℕ)) (p q : Project) → GivesProject held p → GivesProject held q → p ≡ q

@@ -43,10 +43,10 @@ is_log ws holds name script schedule limit t ending asked is = record {
   held = is.1;
   edits = is.2;
   scripted = is.3;
-  channels = is.4;
-  scheduled = is.5;
-  run = is.6;
-  replayed_so = is.7;
+  channels = is.4.0;
+  scheduled = is.4.1;
+  run = is.4.2;
+  replayed_so = is.4.3;
 }
 
 -- what comes of a replay of the files that the words name is right for them

@@ -45,7 +45,6 @@ fn put_three(line: &mut Line, name: &[u8], a: u32, b: u32, c: u32)
     ensures len { array_vec_len line.new ≤ array_vec_len line.old + (length name.now + 123) }
 {
     put_two(line, name, a, u64::from(b));
-    put(line, b" ");
     put_number(line, c);
 }
 
