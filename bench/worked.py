@@ -14,6 +14,7 @@ import oracle
 import projects
 import runs
 import whole_lists
+import worked_edits
 import worked_runs
 import worked_trees
 
@@ -146,7 +147,7 @@ TEXTS = [
 WORDS = [
     ([], 0), (["fly"], 0), (["\udcff"], 0), (["replay"], 1), (["replay", "", "-", "-", "1"], 1), (["replay", "P", "-", "-"], 4),
     (["replay", "P", "-", "-", "007"], 4), (["replay", "P", "-", "-", "0"], 4), (["replay", "P", "-", "-", "2000001"], 4),
-    (["replay", "P", "X", "-", "100"], 2), (["replay", "P", "-", "", "100"], 3), (["replay", "P", "-", "X"], 4), (["replay", "P", "-", "-", "1", "more"], 5),
+    (["replay", "P", "", "-", "100"], 2), (["replay", "P", "-", "", "100"], 3), (["replay", "P", "-", "X"], 4), (["replay", "P", "-", "-", "1", "more"], 5),
     (["path", "P"], 2), (["path", "P", "010"], 2), (["path", "P", "2147483648"], 2), (["path", "P", "10", "20"], 3), (["--help", "me"], 1),
     (["replay", "P", "-", "-", "+5"], 4),
 ]
@@ -234,6 +235,7 @@ def cases():
         given = ask_files(["replay", "P", "-", "S", str(limit)], {"P": changed(HOLE, instances), "S": schedule.encode("latin-1")})
         yield f"a run of {short(instances)} by {schedule!r} up to {limit}", given, worked_runs.answer_of(log)
     yield from schedule_cases()
+    yield from script_cases()
     yield from in_whole_lists()
     for text, said in TEXTS:
         yield repr(text), ask(REPLAY, text), refusal(said) if said else (0, DONE_EMPTY.encode())
@@ -278,6 +280,19 @@ def schedule_cases():
     yield "the longest schedule", ask_files(words, {"P": hole, "S": b" " * oracle.MOST_BYTES})[0], 0
     for schedule in ({}, {"S": b"x"}):
         yield "a refused project and a bad schedule", ask_files(words, {"P": b"", **schedule}), refusal("Syntax 0")
+
+
+def script_cases():
+    """Runs under scripts, and scripts that are refused or can't be read."""
+    words, hole = ["replay", "P", "E", "S", "100"], changed(HOLE, [])
+    for text, log in worked_edits.SCRIPTS:
+        yield repr(text), ask_files(words, {"P": hole, "E": text.encode(), "S": b""}), worked_runs.answer_of(log)
+    for text, said in worked_edits.REFUSED:
+        yield repr(text[:60]), ask_files(words, {"P": hole, "E": text.encode(), "S": b"x"}), refusal(said, oracle.SCRIPT_REFUSED)
+    yield "no script", ask_files(words, {"P": hole, "S": b"x"}), (oracle.READ_FAULT, b"")
+    yield "a script, and no schedule", ask_files(words, {"P": hole, "E": b""}), (oracle.READ_FAULT, b"")
+    yield "a script too long", ask_files(words, {"P": hole, "E": b" " * (oracle.MOST_BYTES + 1)}), refusal("TooLong", oracle.SCRIPT_REFUSED)
+    yield "a refused project and no script", ask_files(words, {"P": b""}), refusal("Syntax 0")
 
 
 def in_whole_lists():

@@ -18,7 +18,7 @@ def lines_of(entry):
     words = entry.split()
     if words[0] == "step":
         return [f"D {words[1]} 0"] + [f"B {words[1]} {k} {block}" for k, block in enumerate(BLOCKS)] + [f"E {words[1]}"]
-    return [f"{entry} {BLOCKS[int(words[2])]}"] if words[0] == "B" else [entry]
+    return [f"{entry} {BLOCKS[int(words[2])]}"] if words[0] == "B" and len(words) == 3 else [entry]
 
 
 def answer_of(log):

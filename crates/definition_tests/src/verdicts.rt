@@ -163,7 +163,10 @@ fn set_of(rt: &impl Abort, alloc: Global, tree: &Tree, text: &str) -> Result<Ste
     for word in text.split(' ') {
         let step = number(word);
         if step != 0 {
-            assert!(rt; tree.steps().contains(&step), "step {step} isn't in the tree");
+            assert!(rt;
+                tree.steps().contains(&step),
+                "step {step} isn't in the tree"
+            );
             set.add(step);
         }
     }
@@ -178,30 +181,16 @@ fn shown(alloc: Global, verdict: Verdict) -> Result<String, AllocError> {
     }
 }
 
-/// The verdict on an edit. It promises nothing, so that its callers are proved without what judging promises.
-fn verdict<L: Ledger>(
+/// The verdict on an edit, with its definitions counted on this ledger. It promises nothing, so that its callers are proved without what
+/// judging promises.
+fn counted<L: Ledger>(
     alloc: Global,
     versions: &Versions,
     tree: &Tree,
     sent: &StepSet,
     edit: &Edit,
-    steps: &mut Steps<L>,
-) -> Result<Verdict, NoMemory>
-    requires steps { versions.now.steps ≡ steps_in tree.now.nodes }
-    requires workingsteps { list_all (is_workingstep (entity_at versions.now.store)) (steps_in tree.now.nodes) ≡ true }
-{
-    judge(alloc, versions, tree, sent, edit, steps)
-}
-
-/// Stops unless the edits of these rows are judged as they say.
-fn expect_verdicts<L: Ledger>(
-    rt: &impl Abort,
-    alloc: Global,
-    versions: &Versions,
-    tree: &Tree,
-    rows: &str,
     blank: Blank,
-) -> Result<(), Fail>
+) -> Result<Verdict, NoMemory>
     requires name { blank.name ≡ L.name }
     requires parts { blank.parts ≡ L.parts }
     requires one { blank.parts ≡ 1 }
@@ -210,13 +199,39 @@ fn expect_verdicts<L: Ledger>(
 {
     let (book, share) = blank.open::<L>();
     let mut steps = Steps::new(book, share);
+    judge(alloc, versions, tree, sent, edit, &mut steps)
+}
+
+fn verdict(
+    alloc: Global,
+    versions: &Versions,
+    tree: &Tree,
+    sent: &StepSet,
+    edit: &Edit,
+) -> Result<Verdict, NoMemory>
+    requires steps { versions.now.steps ≡ steps_in tree.now.nodes }
+    requires workingsteps { list_all (is_workingstep (entity_at versions.now.store)) (steps_in tree.now.nodes) ≡ true }
+{
+    counted::<Brand>(alloc, versions, tree, sent, edit, Blank::new(1))
+}
+
+/// Stops unless the edits of these rows are judged as they say.
+fn expect_verdicts(
+    rt: &impl Abort,
+    alloc: Global,
+    versions: &Versions,
+    tree: &Tree,
+    rows: &str,
+) -> Result<(), Fail>
+    requires steps { versions.now.steps ≡ steps_in tree.now.nodes }
+    requires workingsteps { list_all (is_workingstep (entity_at versions.now.store)) (steps_in tree.now.nodes) ≡ true }
+{
     for line in rows.split('\n') {
         let (sent, rest) = row(line);
         let (items, want) = row(rest);
         let sent = set_of(rt, alloc, tree, sent)?;
         let edit = edit(rt, alloc, items)?;
-        let found = verdict(alloc, versions, tree, &sent, &edit, &mut steps)?;
-        let found = shown(alloc, found)?;
+        let found = shown(alloc, verdict(alloc, versions, tree, &sent, &edit)?)?;
         assert_eq!(rt; found.as_str(), want, "of {line}");
     }
     Ok(())
@@ -228,7 +243,7 @@ fn expect_rows(rt: &impl Abort, alloc: Global, rows: &str) -> Result<(), Fail> {
     let (store, tree) = project.parts();
     steps_of_trees_are_workingsteps();
     let versions = Versions::new(alloc, store, tree.steps(), 0)?;
-    expect_verdicts::<Brand>(rt, alloc, &versions, &tree, rows, Blank::new(1))
+    expect_verdicts(rt, alloc, &versions, &tree, rows)
 }
 
 #[test]

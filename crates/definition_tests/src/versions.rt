@@ -26,13 +26,14 @@ fn edit(rt: &impl Abort, alloc: Global, texts: &[&str]) -> Result<Edit, Fail>
     Ok(Edit { at: 0, items })
 }
 
-/// Step 10 drills with tool 44 and step 11 too; both, and step 12, have technology 45. Step 12 has a tool of its own and leads to nothing else.
+/// Step 10 drills with tool 44 and step 11 too; both, and step 12, have technology 45. Step 12 has a feature and a tool of its own.
 const PROJECT: &str = "#1=PROJECT('',#2);\
     #2=WORKPLAN('',(#12,#10,#11),$);\
     #10=MACHINING_WORKINGSTEP('',#50,#20,#30);\
     #11=MACHINING_WORKINGSTEP('',#50,#20,#31);\
-    #12=MACHINING_WORKINGSTEP('',$,$,#32);\
+    #12=MACHINING_WORKINGSTEP('',$,#21,#32);\
     #20=ROUND_HOLE('',$,$,#60,$,10.);\
+    #21=ROUND_HOLE('',$,$,#61,$,10.);\
     #30=DRILLING($,$,$,5.,$,#44,#45,$,$,$,$,$);\
     #31=DRILLING($,$,$,5.,$,#44,#45,$,$,$,$,$);\
     #32=DRILLING($,$,$,5.,$,#48,#45,$,$,$,$,$);\
@@ -57,8 +58,8 @@ const ROWS: [Row; 9] = [
     (&["#46=TWIST_DRILL($);"], &[10, 11, 12]),
     // A point, four references away.
     (&["#70=CARTESIAN_POINT('',(1.,2.,0.));"], &[10, 11]),
-    // A step itself, and one item beside it that reaches others.
-    (&["#12=MACHINING_WORKINGSTEP('',$,$,$);"], &[12]),
+    // A step itself.
+    (&["#12=MACHINING_WORKINGSTEP('',$,#21,#30);"], &[12]),
     // What refers to steps, and isn't one.
     (&["#2=WORKPLAN('',(#12,#10,#11),$);"], &[]),
     // New, so that nothing refers to it; and new, where an item comes to refer to it.
@@ -70,7 +71,7 @@ const ROWS: [Row; 9] = [
     // The operation refers to its tool no more, so that the tool reaches the other step alone; but the operation is put as well.
     (
         &[
-            "#30=DRILLING($,$,$,5.,$,$,#45,$,$,$,$,$);",
+            "#30=DRILLING($,$,$,5.,$,#48,#45,$,$,$,$,$);",
             "#44=MILLING_CUTTING_TOOL('',#46);",
         ],
         &[10, 11],

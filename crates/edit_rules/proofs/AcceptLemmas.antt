@@ -1,7 +1,7 @@
 -- What an edit that is accepted does to a store.
-use Rattle.std.specs.Prelude.{◌≡◌, ℕ, zero, suc, ◌+◌, ◌<◌, Bool, true, false, ◌&&◌, ◌||◌, ◌==◌, not, is_none, is_ok, IsTrue, Contains, if◌then◌else◌, List, [], ◌∷◌, length, Option, Some, None, option_map, Result, Ok, Err, ◌⊎◌}
-use Rattle.std.specs.Option.{option_or, option_map_or}
-use Rattle.std.specs.List.{list_all, filter}
+use Rattle.std.specs.Prelude.{◌≡◌, ℕ, zero, suc, ◌<◌, Bool, true, false, ◌&&◌, ◌||◌, ◌==◌, is_ok, IsTrue, Contains, if◌then◌else◌, List, [], ◌∷◌, length, Option, Some, None, option_map, Result, Ok, Err, ◌⊎◌}
+use Rattle.std.specs.Option.{option_map_or}
+use Rattle.std.specs.List.{list_all}
 use Rattle.std.proofs.Common.{refl, sym, ap, subst, ◌∙◌, arith, get_or, inl, inr}
 use Rattle.std.proofs.lemmas.Bool.Decides.{nat_tests}
 use Rattle.nc_base.specs.declared.verdict.Verdict.{Verdict}
@@ -30,7 +30,7 @@ use Rattle.step_def.specs.FaultCode.{fault_code}
 use Rattle.step_def.specs.DefOf.{def_of}
 use Rattle.exec_tree.specs.Exec.{has}
 use Rattle.project_versions.specs.Reach.{after, is_reached}
-use Rattle.edit_rules.specs.Judge.{first_given, is_of_program, is_replaceable, class_fault_by, class_fault, is_of_target, wrong_among, kind_fault, code_in, step_fault, j1, j3, judge}
+use Rattle.edit_rules.specs.Judge.{first_given, is_of_program, is_replaceable, class_fault_by, class_fault, is_of_target, wrong_among, kind_fault, code_in, j1, judge}
 use Rattle.edit_rules.specs.Faults.{has_def}
 use Rattle.edit_rules.proofs.JudgeLemmas.{no_way, or_none, none_applies, defined}
 
@@ -97,9 +97,6 @@ class_none store items item none c = map_none (λ class. Refused 1 item.number c
 
 -- ---- the third rule: each used reference is of its position's target
 
-
-
-
 each_passes : (test : ℕ → Bool) (xs : List ℕ) (r k : ℕ) → list_all test xs ≡ true → k < length xs → get_or xs k r ≡ r → test r ≡ true
 each_passes test [] r k h l e = absurd (omega arith)
 each_passes test (x ∷ xs) r zero h l e = subst (λ y. test y ≡ true) e (and_both (test x) (list_all test xs) h).0
@@ -144,7 +141,7 @@ can_put store steps sent items e =
     record {
       resolved = resolves (after store items) items none.2;
       kept = λ item old c s. sym (same_class old.class item.class (replaced (entity_at store item.number) old item s (class_none store items item none.0 c)).1);
-      no_project = λ item c s. new_by (entity_at store item.number) item s (class_none store items item none.0 c)
+      no_project = λ item c s. new_by (entity_at store item.number) item s (class_none store items item none.0 c);
     }
 
 -- ---- what stands under a number with the items put
@@ -167,9 +164,9 @@ stands entities (x ∷ items) n = elim (stands (put entities x) items n) [ inl e
 -- an entity that no edit may put again stays
 stays_at : (store items : List Entity) (n : ℕ) (old : Entity) → j1 store items ≡ None → entity_at store n ≡ Some old → is_replaceable old.class ≡ false → after store items n ≡ entity_at store n
 stays_at store items n old none s r = elim (stands (entity_at store) items n) [
-    inl e ↦ e
+  | inl e ↦ e
   | inr i ↦ absurd (no_way (sym r ∙ (replaced (entity_at store i.0.number) old i.0 (subst (λ k. entity_at store k ≡ Some old) (sym i.2) s) (class_none store items i.0 none i.1)).0))
-  ]
+]
 
 -- ---- workingsteps
 
@@ -183,11 +180,11 @@ step_by (Some old) item w c = let same : old.class ≡ item.class = same_class o
 -- a workingstep stays one: what takes its place is of its class
 step_stays : (store items : List Entity) (n : ℕ) → j1 store items ≡ None → is_workingstep (entity_at store) n ≡ true → is_workingstep (after store items) n ≡ true
 step_stays store items n none w = elim (stands (entity_at store) items n) [
-    inl e ↦ subst (λ o. is_a_step o ≡ true) (sym e) w
+  | inl e ↦ subst (λ o. is_a_step o ≡ true) (sym e) w
   | inr i ↦
-    subst (λ o. is_a_step o ≡ true) (sym i.3)
-    (step_by (entity_at store i.0.number) i.0 (subst (λ k. is_a_step (entity_at store k) ≡ true) (sym i.2) w) (class_none store items i.0 none i.1))
-  ]
+      subst (λ o. is_a_step o ≡ true) (sym i.3)
+      (step_by (entity_at store i.0.number) i.0 (subst (λ k. is_a_step (entity_at store k) ≡ true) (sym i.2) w) (class_none store items i.0 none i.1))
+]
 
 each_member : (test : ℕ → Bool) (ns : List ℕ) (n : ℕ) → list_all test ns ≡ true → has ns n ≡ true → test n ≡ true
 each_member test [] n h i = absurd (no_way i)

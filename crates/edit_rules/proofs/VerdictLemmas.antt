@@ -1,9 +1,8 @@
 -- How an edit is judged by the steps that it reaches, in order of number.
-use Rattle.std.specs.Prelude.{◌≡◌, ℕ, zero, suc, ◌+◌, ◌<◌, ◌≤◌, Bool, true, false, ◌&&◌, ◌||◌, ◌==◌, ◌↔◌, Contains, IsTrue, IsSome, List, [], ◌∷◌, length, filter, Option, Some, None, option_map, unwrap_or, if◌then◌else◌, ◌⊎◌}
+use Rattle.std.specs.Prelude.{◌≡◌, ℕ, zero, suc, ◌<◌, ◌≤◌, Bool, true, false, ◌↔◌, Contains, IsTrue, IsSome, List, [], ◌∷◌, length, filter, Option, Some, None, option_map, unwrap_or, if◌then◌else◌, ◌⊎◌}
 use Rattle.std.specs.Option.{option_or}
 use Rattle.std.specs.List.{list_all}
 use Rattle.std.proofs.Common.{refl, sym, ap, subst, ◌∙◌, arith, get_or, inl, inr}
-use Rattle.std.proofs.lemmas.Bool.Decides.{nat_tests}
 use Rattle.nc_base.specs.declared.verdict.Verdict.{Verdict}
 use Rattle.nc_base.specs.declared.verdict.Verdict.TheVariants.{Accepted}
 use Rattle.entity_types.specs.declared.entity.Entity.{Entity}
@@ -13,11 +12,11 @@ use Rattle.step_def.specs.Condition.{is_workingstep}
 use Rattle.exec_tree.specs.Exec.{has}
 use Rattle.project_versions.specs.Reach.{after, is_reached}
 use Rattle.project_versions.specs.Versioned.{AreReached}
-use Rattle.edit_rules.specs.Judge.{least_step, sent_fault, step_fault, reached, touched, refused_step, j1, j2, j3, j4, j5, first_refusal, judge}
+use Rattle.edit_rules.specs.Judge.{least_step, sent_fault, step_fault, reached, refused_step, j1, j2, j3, j4, j5, first_refusal, judge}
 use Rattle.edit_rules.specs.Judging.{first_step, item_refusal, early_refusal}
 use Rattle.edit_rules.proofs.JudgeLemmas.{no_way, or_none, kept_in, same_steps}
 use Rattle.edit_rules.proofs.StepFaultLemmas.{AreSame, first_is_least, few, split, later, here}
-use Rattle.edit_rules.proofs.AcceptLemmas.{and_both, steps_stay}
+use Rattle.edit_rules.proofs.AcceptLemmas.{steps_stay}
 
 -- ---- members, by a test and by their places
 
@@ -50,9 +49,10 @@ kept_only test (m ∷ ns) n h = go (test m) refl h (kept_only test ns n)
 
 -- what Versions finds is what the definition filters out
 pub same_reached : (store : List Entity) (steps : List ℕ) (items : List Entity) (ns : List ℕ) → AreReached store steps items ns → AreSame ns (reached store steps items)
-same_reached store steps items ns are =
-    (λ m i. let both = (are.members m).0 (contains_from ns m i) in kept_in (is_reached store items) steps m (has_from steps m both.0) both.1,
-     λ m i. let both = kept_only (is_reached store items) steps m i in has_from ns m ((are.members m).1 (contains_from steps m both.0, both.1)))
+same_reached store steps items ns are = (
+  λ m i. let both = (are.members m).0 (contains_from ns m i) in kept_in (is_reached store items) steps m (has_from steps m both.0) both.1,
+  λ m i. let both = kept_only (is_reached store items) steps m i in has_from ns m ((are.members m).1 (contains_from steps m both.0, both.1)),
+)
 
 -- a test that tells members is the test of them
 pub decides : (b : Bool) (ns : List ℕ) (n : ℕ) → (IsTrue b ↔ Contains ns n) → b ≡ has ns n

@@ -19,11 +19,11 @@ use Rattle.project_store.specs.Places.{IsAt}
 use Rattle.project_versions.specs.StepSet.{IsOrderOf}
 use Rattle.project_versions.specs.Versioned.{AreReached}
 use Rattle.project_versions.specs.declared.users.Edge.{Edge}
-use Rattle.project_versions.specs.Users.{Rows, Linked, here, further, IsEdge, RowIsRight, IsUserIndex, IsUserAt, AddsEdge, AddsLinked, AddsUsers, Grown}
+use Rattle.project_versions.specs.Users.{Rows, Linked, here, further, IsEdge, IsUserIndex, IsUserAt, AddsEdge, AddsLinked, AddsUsers, Grown}
 use Rattle.project_versions.proofs.GrownLemmas.{among_holds, holds_among, only_there, Grown-none, Grown-one, Grown-both}
 use Rattle.project_versions.proofs.LeadingLemmas.{prepend, decided}
 use Rattle.project_versions.proofs.UnreachedLemmas.{not_put}
-use Rattle.project_versions.proofs.UserLemmas.{no_link, link_cases, placed, IsPlace}
+use Rattle.project_versions.proofs.UserLemmas.{no_link, link_cases}
 
 -- ---- the users of an edge
 

@@ -1,7 +1,7 @@
 -- Numbers put into a set that keeps the order in which they came.
-use Rattle.std.specs.Prelude.{◌≡◌, ◌⊎◌, ◌↔◌, ◌<◌, ◌≤◌, ◌+◌, ℕ, Bool, true, false, nat_eq, List, [], ◌∷◌, ◌++◌, length, Contains, slice_index}
+use Rattle.std.specs.Prelude.{◌≡◌, ◌↔◌, ℕ, Bool, true, false, nat_eq, List, [], ◌∷◌, ◌++◌, Contains}
 use Rattle.std.specs.BTreeSet.{BTreeSet}
-use Rattle.std.proofs.Common.{refl, sym, ap, subst, ◌∙◌, inl, inr, cond, arith, length-append}
+use Rattle.std.proofs.Common.{refl, sym, subst, ◌∙◌, inl, inr, cond, arith, length-append}
 use Rattle.std.proofs.lemmas.Bool.Decides.{nat_tests}
 use Rattle.std.proofs.lemmas.Cmp.{nat_eq_equiv, nat_cmp_total}
 use Rattle.std.proofs.lemmas.List.{get_or_append_left}

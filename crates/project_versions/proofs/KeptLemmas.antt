@@ -1,19 +1,18 @@
 -- What Versions keep when an edit is put.
-use Rattle.std.specs.Prelude.{◌≡◌, ◌⊎◌, ◌↔◌, ◌<◌, ◌≤◌, ◌+◌, ◌==◌, ℕ, zero, suc, Bool, true, false, nat_eq, nat_lt, List, [], ◌∷◌, ◌++◌, length, slice_get, slice_index_or, Option, Some, None, Contains}
+use Rattle.std.specs.Prelude.{◌≡◌, ◌⊎◌, ◌<◌, ◌≤◌, ◌+◌, ◌==◌, ℕ, zero, suc, Bool, true, false, nat_eq, nat_lt, List, [], ◌∷◌, length, slice_get, slice_index_or, Option, Some, None, Contains}
 use Rattle.std.specs.List.{AllByRecursion, IsDistinct}
 use Rattle.std.specs.Option.{option_map_or}
-use Rattle.std.proofs.Common.{refl, sym, ap, subst, ◌∙◌, inl, inr, arith, get_or}
+use Rattle.std.proofs.Common.{refl, sym, ap, subst, ◌∙◌, inl, inr, arith}
 use Rattle.std.proofs.lemmas.Bool.Decides.{nat_tests}
-use Rattle.std.proofs.lemmas.Option.{slice_get_within, slice_get-get_or}
+use Rattle.std.proofs.lemmas.Option.{slice_get_within}
 use Rattle.entity_types.specs.declared.entity.Entity.{Entity}
 use Rattle.entity_types.specs.Entity.{uses_of}
 use Rattle.project_store.specs.Entities.{numbers_of, entity_at}
 use Rattle.project_store.specs.Inserts.{is_among, uses_at}
 use Rattle.project_store.specs.Put.{put_all, put_in, put_items}
 use Rattle.project_versions.specs.Reach.{is_reached}
-use Rattle.project_versions.specs.Versions.{one_where}
 use Rattle.project_versions.specs.Versioned.{AreReached}
-use Rattle.project_versions.specs.Users.{Rows, Linked, IsEdge, RowIsRight, RowsAreRight, AreLinked, HasRows, IsUserIndex, PutsRows}
+use Rattle.project_versions.specs.Users.{Rows, RowIsRight, RowsAreRight, AreLinked, IsUserIndex, PutsRows}
 use Rattle.project_versions.proofs.GrownLemmas.{among_holds, holds_among}
 use Rattle.project_versions.proofs.UserLemmas.{no_link}
 use Rattle.project_versions.proofs.BackwardLemmas.{stands}

@@ -1,7 +1,7 @@
 -- Versions, read and raised.
-use Rattle.std.specs.Prelude.{◌≡◌, ◌⊎◌, ◌<◌, ◌≤◌, ◌+◌, ◌==◌, ◌||◌, ℕ, zero, suc, Bool, true, false, nat_eq, List, [], ◌∷◌, ◌++◌, length, slice_get, Some, Contains}
+use Rattle.std.specs.Prelude.{◌≡◌, ◌<◌, ◌+◌, ◌==◌, ◌||◌, ℕ, zero, suc, Bool, true, false, nat_eq, List, [], ◌∷◌, ◌++◌, length, slice_get, Some, Contains}
 use Rattle.std.specs.List.Sorted.{IsStrictlyIncreasing}
-use Rattle.std.proofs.Common.{refl, sym, ap, subst, ◌∙◌, inl, inr, arith, get_or, set, take, replicate, length-set}
+use Rattle.std.proofs.Common.{refl, sym, ap, subst, ◌∙◌, arith, get_or, set, take, replicate, length-set}
 use Rattle.std.proofs.lemmas.Bool.Decides.{nat_tests}
 use Rattle.std.proofs.lemmas.List.{get_or-set_same, get_or-set_other, get_or-take, length-take-le}
 use Rattle.std.proofs.lemmas.Option.{get_or_from_slice_get, slice_get-get_or, slice_get_within}
@@ -10,7 +10,7 @@ use Rattle.project_versions.specs.StepSet.{IsOrderOf}
 use Rattle.project_versions.specs.Versions.{one_where}
 use Rattle.project_versions.specs.Versioned.{version_of, counted}
 use Rattle.project_versions.specs.Kept.{Raises}
-use Rattle.project_versions.proofs.GrownLemmas.{among_holds, holds_among}
+use Rattle.project_versions.proofs.GrownLemmas.{among_holds}
 use Rattle.project_versions.proofs.StepLemmas.{rises, one_place}
 
 itself : (n : ℕ) → (n == n) ≡ true

@@ -40,13 +40,7 @@ fn file_asked(words: &[NcText], asked: u8) -> (&str, &str) {
 
 /// Says in one line on standard error what a person has to know beside the status and the refusal line, with what the host said of a file
 /// that it could not read, the last of so many that were asked for. Whether that line can be written changes nothing.
-fn tell(
-    rt: HostRuntime,
-    words: &[NcText],
-    status: Status,
-    asked: u8,
-    said: Option<&io::Error>,
-) {
+fn tell(rt: HostRuntime, words: &[NcText], status: Status, asked: u8, said: Option<&io::Error>) {
     let _ = match status {
         Status::BadWords(_) => eprintln!(rt; "stepnc: `stepnc --help` shows the commands"),
         Status::ReadFault => {

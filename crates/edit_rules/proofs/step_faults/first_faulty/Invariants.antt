@@ -1,4 +1,4 @@
-use Rattle.std.proofs.Common.{◌≡◌, ◌+◌, ◌≤◌, drop, true}
+use Rattle.std.proofs.Common.{◌≡◌, ◌+◌, drop, true}
 use Rattle.std.specs.List.{list_all}
 use Rattle.step_def.specs.Condition.{is_workingstep}
 use Rattle.edit_rules.specs.Judge.{step_fault}

@@ -1,4 +1,4 @@
-use Rattle.std.proofs.Common.{◌≡◌, ◌∙◌, ◌≤◌, ◌+◌, ap, sym, subst, arith, length, List, ℕ}
+use Rattle.std.proofs.Common.{◌∙◌, ap, sym, subst, arith, length, List, ℕ}
 use Rattle.std.specs.Prelude.{option_map}
 use Rattle.exec_tree.specs.Built.{steps_in}
 use Rattle.project_versions.specs.Versioned.{AreReached}
@@ -25,8 +25,8 @@ first_faulty-requires g c =
     let are = subst (λ steps. AreReached store steps items c.in_ok-reached.reached) c.requires.steps c.in_ok-reached.ensures in
     record {
       workingsteps =
-        rw (c.as_slice-numbers.ensures, c.in_ok-put.ensures.store, c.in_ok-put.ensures.items, c.store-store.ensures)
-        (reached_steps_stay store (steps_in c.args.tree.now.nodes) items c.in_ok-reached.reached none are c.requires.workingsteps)
+          rw (c.as_slice-numbers.ensures, c.in_ok-put.ensures.store, c.in_ok-put.ensures.items, c.store-store.ensures)
+          (reached_steps_stay store (steps_in c.args.tree.now.nodes) items c.in_ok-reached.reached none are c.requires.workingsteps);
     }
 
 pub returns-clause-refusal : goal.returns-clause-refusal

@@ -1,8 +1,7 @@
-use Rattle.std.proofs.Common.{◌≡◌, ◌<◌, ℕ, length, sym, ap, subst, arith}
-use Rattle.std.specs.Prelude.{slice_index_or}
+use Rattle.std.proofs.Common.{◌<◌, ℕ, length, subst, arith}
 use Rattle.std.proofs.lemmas.List.{get_or_read}
 use Rattle.project_store.specs.Entities.{entity_at}
-use Rattle.project_versions.specs.Users.{rows_of, AddsLinked, AddsUsers}
+use Rattle.project_versions.specs.Users.{rows_of, AddsLinked}
 use Rattle.project_versions.proofs.UserLemmas.{placed}
 use Rattle.project_versions.proofs.BackwardLemmas.{on_ok, users_all, users_none}
 use Rattle.project_versions.proofs.backward.insert_users.Goals as goal

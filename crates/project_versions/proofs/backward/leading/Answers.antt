@@ -1,4 +1,4 @@
-use Rattle.std.proofs.Common.{◌≡◌, ◌<◌, ℕ, length, sym, arith}
+use Rattle.std.proofs.Common.{◌<◌, length, sym, arith}
 use Rattle.std.proofs.lemmas.List.{get_or_read}
 use Rattle.project_versions.proofs.GrownLemmas.{tree_members}
 use Rattle.project_versions.proofs.BackwardLemmas.{Backward-start, Backward-turn, Backward-end}

@@ -1,4 +1,4 @@
-use Rattle.std.proofs.Common.{◌≡◌, ◌<◌, ℕ, Option, IfNone, Contains, length, subst, arith}
+use Rattle.std.proofs.Common.{◌<◌, ℕ, Option, IfNone, Contains, length, subst, arith}
 use Rattle.std.proofs.lemmas.List.{get_or_read}
 use Rattle.std.proofs.lemmas.Option.{slice_get_within}
 use Rattle.project_versions.proofs.RaisingLemmas.{version_at, raised, not_raised}

@@ -1,4 +1,4 @@
-use Rattle.std.proofs.Common.{◌≡◌, List, ℕ, subst, sym, ◌∙◌, rules}
+use Rattle.std.proofs.Common.{◌≡◌, List, ℕ, subst, rules}
 use Rattle.std.specs.List.Sorted.{IsPermutation}
 use Rattle.project_versions.proofs.StepLemmas.{ordered}
 use Rattle.project_versions.proofs.step_order.StepOrder.new.Goals as goal

@@ -1,4 +1,4 @@
-use Rattle.std.proofs.Common.{◌≡◌, List, Option, ℕ, subst, sym, IfNone, Contains}
+use Rattle.std.proofs.Common.{List, ℕ, subst, IfNone, Contains}
 use Rattle.std.specs.List.Sorted.{IsBinarySearchResult}
 use Rattle.std.specs.Ordering.{nat_cmp}
 use Rattle.project_versions.specs.StepSet.{Ordered}

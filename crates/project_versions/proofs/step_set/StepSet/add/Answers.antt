@@ -1,4 +1,4 @@
-use Rattle.std.proofs.Common.{◌≡◌, true, set, subst}
+use Rattle.std.proofs.Common.{true, set, subst}
 use Rattle.project_versions.specs.StepSet.{SomeSteps, Adds, marked}
 use Rattle.project_versions.proofs.StepLemmas.{marked_more}
 use Rattle.project_versions.proofs.step_set.StepSet.add.Goals as goal

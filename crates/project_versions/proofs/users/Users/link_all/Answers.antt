@@ -1,7 +1,7 @@
-use Rattle.std.proofs.Common.{◌+◌, ◌<◌, List, ℕ, length, take, sym, subst, arith}
+use Rattle.std.proofs.Common.{◌<◌, length, take, sym, subst, arith}
 use Rattle.std.proofs.lemmas.List.{take_more}
 use Rattle.project_versions.specs.Users.{rows_of, Links}
-use Rattle.project_versions.proofs.UserLemmas.{Links-none, Links-both, Links-rows}
+use Rattle.project_versions.proofs.UserLemmas.{Links-both, Links-rows}
 use Rattle.project_versions.proofs.users.Users.link_all.Goals as goal
 
 pub loop-reference-preserved : goal.loop-reference-preserved

@@ -1,5 +1,4 @@
-use Rattle.std.proofs.Common.{List, ap, ◌∙◌, subst}
-use Rattle.entity_types.specs.declared.entity.Entity.{Entity}
+use Rattle.std.proofs.Common.{ap, ◌∙◌, subst}
 use Rattle.project_versions.specs.Users.{Rows, rows_of, PutsRows}
 use Rattle.project_versions.proofs.UserLemmas.{index_made}
 use Rattle.project_versions.proofs.users.Users.new.Goals as goal

@@ -1,7 +1,7 @@
-use Rattle.std.proofs.Common.{◌≡◌, ◌+◌, ◌<◌, ◌∷◌, [], ◌++◌, List, length, take, drop, sym, ap, ◌∙◌, subst, arith}
-use Rattle.std.proofs.lemmas.List.{take_more, drop_more}
+use Rattle.std.proofs.Common.{◌<◌, ◌∷◌, [], ◌++◌, length, take, sym, ap, ◌∙◌, subst, arith}
+use Rattle.std.proofs.lemmas.List.{take_more}
 use Rattle.entity_types.specs.declared.entity.Entity.{Entity}
-use Rattle.project_versions.specs.Users.{rows_of, PutsRows, uses_count}
+use Rattle.project_versions.specs.Users.{rows_of, PutsRows}
 use Rattle.project_versions.proofs.UserLemmas.{PutsRows-both, PutsRows-rows, uses_count-drop}
 use Rattle.project_versions.proofs.users.Users.put.Goals as goal
 

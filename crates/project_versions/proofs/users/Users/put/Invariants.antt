@@ -1,4 +1,4 @@
-use Rattle.std.proofs.Common.{◌≡◌, ◌+◌, ◌≤◌, length, take, drop, vec_len}
+use Rattle.std.proofs.Common.{◌+◌, ◌≤◌, length, take, drop, vec_len}
 use Rattle.std.specs.Prelude.{vec_capacity}
 use Rattle.project_versions.specs.Users.{rows_of, HasRows, PutsRows, uses_count}
 use Rattle.project_versions.proofs.users.Users.put.Given as goal

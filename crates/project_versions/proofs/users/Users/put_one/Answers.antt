@@ -1,4 +1,3 @@
-use Rattle.std.proofs.Common.{arith}
 use Rattle.project_versions.specs.Users.{rows_of}
 use Rattle.project_versions.proofs.UserLemmas.{placed, unplaced, one_put, none_put}
 use Rattle.project_versions.proofs.users.Users.put_one.Goals as goal
