@@ -1,5 +1,5 @@
 -- Words and the bytes of the files that they name have one answer.
-use Rattle.std.proofs.Common.{◌≡◌, ℕ, ◌<◌, ◌≤◌, Bool, true, false, List, [], map, length, Option, Some, None, Result, Ok, refl, sym, ap, subst, ◌∙◌, arith, inl, inr}
+use Rattle.std.proofs.Common.{◌≡◌, ℕ, Bool, true, false, List, [], map, Option, Some, None, Result, Ok, refl, sym, ap, subst, ◌∙◌, arith, inl, inr}
 use Rattle.std.specs.Prelude.{◌⊎◌, IfSome}
 use Rattle.path_blocks.specs.declared.def.Def.{Def}
 use Rattle.path_blocks.specs.Path.{path_of}
@@ -22,7 +22,6 @@ use Rattle.run_log.specs.LogText.{text_of}
 use Rattle.run_log.specs.declared.entry.Entry.{Entry}
 use Rattle.run_log.specs.declared.entry.Ending.{Ending}
 use Rattle.run_log.specs.declared.entry.Ending.TheVariants as endings
-use Rattle.run_schedule.specs.declared.reading.TheConstants.{MAX_SCHEDULE_BYTES}
 use Rattle.controller.specs.declared.status.Status.{Status}
 use Rattle.controller.specs.declared.status.Status.TheVariants as statuses
 use Rattle.controller.specs.declared.status.ScriptReason.{ScriptReason}
@@ -31,14 +30,14 @@ use Rattle.controller.specs.Words.{IsReplay, NamesProject, is_hyphen}
 use Rattle.controller.specs.Meaning.{Meaning, Replay, Path, Help, Version, Bad, Mean}
 use Rattle.controller.specs.Texts.{bad_words_line, help_text, version_text}
 use Rattle.controller.specs.Refusal.{refusal_line, script_line}
-use Rattle.controller.specs.ScriptText.{IsScript, RefusesScript, IsScripted, ScriptedBy, IsUnscripted}
-use Rattle.controller.specs.ScheduleText.{IsSchedule, RefusesSchedule, IsScheduled, ScheduledBy, IsUnscheduled}
+use Rattle.controller.specs.ScriptText.{IsScript, RefusesScript, IsScripted, ScriptedBy}
+use Rattle.controller.specs.ScheduleText.{IsSchedule, RefusesSchedule, IsScheduled, ScheduledBy}
 use Rattle.controller.specs.Asked.{HoldsProject, IsStep, IsLog, IsDefinition, HasNoProject, HasNoStep, HasNoScript, HasNoSchedule, IsRefused, IsWritten, IsRight, replayed}
 use Rattle.controller.specs.Answer.{ending_status}
 use Rattle.controller.specs.Told.{IsTold, NoneFailed, Completes}
 use Rattle.controller.specs.Outside.{Outside, Writes}
 use Rattle.controller.specs.Answered.{Answered}
-use Rattle.controller.proofs.CommandLemmas.{no_test, tested}
+use Rattle.controller.proofs.CommandLemmas.{no_test}
 use Rattle.controller.proofs.SameEdits.{same_edits}
 
 -- what the laws say, of which the answers' laws are made

@@ -1,5 +1,5 @@
 -- What the calls beneath the top calls answer.
-use Rattle.std.specs.Prelude.{◌≡◌, ◌⊎◌, ℕ, true, false, List, [], Option, Result, Ok, Err, IfSome}
+use Rattle.std.specs.Prelude.{◌≡◌, ◌⊎◌, ℕ, false, List, Option, Result, Ok, Err, IfSome}
 use Rattle.std.specs.Global.{Vec}
 use Rattle.nc_outside.specs.Outside.{Rose, Appends, AppendsFront}
 use Rattle.entity_types.specs.declared.entity.Entity.{Entity}

@@ -1,6 +1,5 @@
 -- The schedule that a word of a command names.
-use Rattle.std.specs.Prelude.{◌≡◌, ℕ, ◌<◌, ◌≤◌, Bool, true, false, List, [], length, Option, Some, None, IfSome, codes}
-use Rattle.std.specs.Str.{bytes_eq}
+use Rattle.std.specs.Prelude.{◌≡◌, ℕ, ◌<◌, ◌≤◌, Bool, true, false, List, [], length, Option, Some, None, IfSome}
 use Rattle.run_schedule.specs.declared.reading.TheConstants.{MAX_SCHEDULE_BYTES}
 use Rattle.run_schedule.specs.Schedule.{channels_in, first_bad}
 use Rattle.controller.specs.declared.status.ScriptReason.{ScriptReason}

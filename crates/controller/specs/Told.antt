@@ -1,5 +1,5 @@
 -- What has to be told for words to have one answer, and what a replay has done where nothing failed.
-use Rattle.std.specs.Prelude.{◌≡◌, ◌⊎◌, ℕ, List, [], Option, Some}
+use Rattle.std.specs.Prelude.{◌≡◌, ◌⊎◌, ℕ, List, Option, Some}
 use Rattle.nc_outside.specs.Outside.{Rose}
 use Rattle.project_read.specs.Holds.{Project}
 use Rattle.project_law.specs.Run.{IsRun}

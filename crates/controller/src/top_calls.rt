@@ -13,9 +13,9 @@ use crate::laws::word_laws;
 use crate::replaying::replay_files;
 use crate::showing::show_file;
 use crate::status::Status;
+use edit_script::script_laws;
 use nc_base::NcText;
 use nc_outside::{Files, Gate, Sink};
-use edit_script::script_laws;
 use project_read::project_laws;
 use std::alloc::Global;
 
