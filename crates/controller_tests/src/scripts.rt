@@ -12,15 +12,16 @@ use std::test::Fail;
 const DEEPER: &str = "#72=CARTESIAN_POINT('',(0.,0.,-18.));";
 
 /// What workingstep 10 makes of the drilled hole behind its dispatch.
-const STEP: &str = "B 10 0 T 44 20000 / B 10 1 R 10000 20000 30000 / B 10 2 R 10000 20000 5000 / B 10 3 F 10000 20000 -15000 40 / B 10 4 R 10000 20000 5000 / B 10 5 R 10000 20000 30000 / E 10";
+const STEP: &str =
+    "B 10 0 T 44 20000 / B 10 1 R 10000 20000 30000 / B 10 2 R 10000 20000 5000 / B 10 3 F 10000 20000 -15000 40 / B 10 4 R 10000 20000 5000 / B 10 5 R 10000 20000 30000 / E 10";
 
 /// What it makes of the hole that an edit made deeper.
-const DEEP_STEP: &str = "B 10 0 T 44 20000 / B 10 1 R 10000 20000 30000 / B 10 2 R 10000 20000 5000 / B 10 3 F 10000 20000 -18000 40 / B 10 4 R 10000 20000 5000 / B 10 5 R 10000 20000 30000 / E 10";
+const DEEP_STEP: &str =
+    "B 10 0 T 44 20000 / B 10 1 R 10000 20000 30000 / B 10 2 R 10000 20000 5000 / B 10 3 F 10000 20000 -18000 40 / B 10 4 R 10000 20000 5000 / B 10 5 R 10000 20000 30000 / E 10";
 
 /// A line for each run of the drilled hole: the script, with `deeper` for the instance `DEEPER`, and the log behind its first line, with ` / ` in place of a
 /// line feed and `step` or `deep step` for what workingstep 10 makes.
-const RUNS: &str =
-    "|D 10 0 / step / end done 8\n\
+const RUNS: &str = "|D 10 0 / step / end done 8\n\
     EDIT AT 0; deeper ENDEDIT;|X 0 ok / D 10 1 / deep step / end done 9\n\
     EDIT AT 0; ENDEDIT;|X 0 ok / D 10 0 / step / end done 9\n\
     EDIT AT 1; deeper ENDEDIT;|D 10 0 / X 0 no J4 10 0 / step / end done 9\n\
@@ -39,8 +40,7 @@ const RUNS_OF_TWO: &str =
     EDIT AT 1; #75=CARTESIAN_POINT('',(0.,0.,-9.)); ENDEDIT;|D 10 0 / X 0 ok / step / D 11 1 / B 11 0 R 10000 20000 30000 / B 11 1 R 10000 20000 5000 / B 11 2 F 10000 20000 -9000 40 / B 11 3 R 10000 20000 5000 / B 11 4 R 10000 20000 30000 / E 11 / end done 16\n";
 
 /// A line for each script that is refused, with its refusal.
-const REFUSED: &str =
-    "EDIT AT 5; ENDEDIT; EDIT AT 4; ENDEDIT;|AtOrder 1\n\
+const REFUSED: &str = "EDIT AT 5; ENDEDIT; EDIT AT 4; ENDEDIT;|AtOrder 1\n\
     EDIT AT 0; #72=PLANE('',$); #72=PLANE('',$); ENDEDIT;|Repeated 0 72\n\
     EDIT AT 0; #70=CARTESIAN_POINT('',$); ENDEDIT;|Attribute 0 70 2\n\
     EDIT AT 0; ENDEDIT; EDIT AT 0; #2147483647=CARTESIAN_POINT('',$); ENDEDIT;|Attribute 1 2147483647 2\n\
@@ -154,14 +154,6 @@ fn a_script_may_have_so_many_bytes(rt: HostRuntime) -> Result<(), Fail> {
     let edits = " ".repeat(alloc, 16_777_217)?;
     let files = files_of(alloc, HOLE, &edits, "01x")?;
     expect_answer(&rt, alloc, files, "turns", 5, "refused TooLong\n")
-}
-
-#[test]
-fn a_script_with_all_its_bytes_is_read(rt: HostRuntime) -> Result<(), Fail> {
-    let alloc = rt.alloc();
-    let edits = " ".repeat(alloc, 16_777_216)?;
-    let files = files_of(alloc, HOLE, &edits, "01x")?;
-    expect_answer(&rt, alloc, files, "turns", 5, "refused Schedule 2\n")
 }
 
 #[test]
