@@ -1,5 +1,5 @@
 -- Words and the bytes of the files that they name have one answer.
-use Rattle.std.proofs.Common.{◌≡◌, ℕ, ◌<◌, ◌≤◌, Bool, true, false, List, [], length, Option, Some, None, Result, Ok, refl, sym, ap, subst, ◌∙◌, arith, inl, inr}
+use Rattle.std.proofs.Common.{◌≡◌, ℕ, Bool, true, false, List, [], map, Option, Some, None, Result, Ok, refl, sym, ap, subst, ◌∙◌, arith, inl, inr}
 use Rattle.std.specs.Prelude.{◌⊎◌, IfSome}
 use Rattle.path_blocks.specs.declared.def.Def.{Def}
 use Rattle.path_blocks.specs.Path.{path_of}
@@ -13,46 +13,52 @@ use Rattle.run_law.specs.Rules.{Rules}
 use Rattle.run_law.specs.Endings.{EndsSo}
 use Rattle.project_law.specs.ProjectRules.{rules_of}
 use Rattle.project_law.specs.Run.{IsRun}
+use Rattle.entity_types.specs.declared.edit.Edit.{Edit}
+use Rattle.edit_script.specs.declared.error.ScriptErr.{ScriptErr}
+use Rattle.edit_script.specs.Edits.{EditModel, model_of}
+use Rattle.edit_script.specs.Reads as scripts
 use Rattle.run_log.specs.BlocksText.{blocks_text}
 use Rattle.run_log.specs.LogText.{text_of}
 use Rattle.run_log.specs.declared.entry.Entry.{Entry}
 use Rattle.run_log.specs.declared.entry.Ending.{Ending}
 use Rattle.run_log.specs.declared.entry.Ending.TheVariants as endings
-use Rattle.run_schedule.specs.declared.reading.TheConstants.{MAX_SCHEDULE_BYTES}
 use Rattle.controller.specs.declared.status.Status.{Status}
 use Rattle.controller.specs.declared.status.Status.TheVariants as statuses
 use Rattle.controller.specs.declared.status.ScriptReason.{ScriptReason}
-use Rattle.controller.specs.declared.status.ScriptReason.TheVariants as script
+use Rattle.controller.specs.declared.status.ScriptReason.TheVariants as refusals
 use Rattle.controller.specs.Words.{IsReplay, NamesProject, is_hyphen}
 use Rattle.controller.specs.Meaning.{Meaning, Replay, Path, Help, Version, Bad, Mean}
 use Rattle.controller.specs.Texts.{bad_words_line, help_text, version_text}
 use Rattle.controller.specs.Refusal.{refusal_line, script_line}
-use Rattle.controller.specs.ScheduleText.{IsSchedule, RefusesSchedule, IsScheduled, ScheduledBy, IsUnscheduled}
-use Rattle.controller.specs.Asked.{HoldsProject, IsStep, IsLog, IsDefinition, HasNoProject, HasNoStep, HasNoSchedule, IsRefused, IsWritten, IsRight, replayed}
+use Rattle.controller.specs.ScriptText.{IsScript, RefusesScript, IsScripted, ScriptedBy}
+use Rattle.controller.specs.ScheduleText.{IsSchedule, RefusesSchedule, IsScheduled, ScheduledBy}
+use Rattle.controller.specs.Asked.{HoldsProject, IsStep, IsLog, IsDefinition, HasNoProject, HasNoStep, HasNoScript, HasNoSchedule, IsRefused, IsWritten, IsRight, replayed}
 use Rattle.controller.specs.Answer.{ending_status}
 use Rattle.controller.specs.Told.{IsTold, NoneFailed, Completes}
 use Rattle.controller.specs.Outside.{Outside, Writes}
 use Rattle.controller.specs.Answered.{Answered}
-use Rattle.controller.proofs.CommandLemmas.{no_test, tested}
+use Rattle.controller.proofs.CommandLemmas.{no_test}
+use Rattle.controller.proofs.SameEdits.{same_edits}
 
 -- what the laws say, of which the answers' laws are made
 abbrev pub OneMeaning : Type 0
 OneMeaning = (words : List (List ℕ)) (m n : Meaning) → Mean words m → Mean words n → m ≡ n
 
-abbrev pub OneProject : Type 0
-OneProject = (bytes : List ℕ) (p q : Project) → Holds bytes p → Holds bytes q → p ≡ q
+-- what the laws of projects and scripts say
+pub record Laws : Type 0 where
+  pub one_project : (bytes : List ℕ) (p q : Project) → Holds bytes p → Holds bytes q → p ≡ q
+  pub no_refusal : (bytes : List ℕ) (p : Project) (reason : ProjectReason) → Holds bytes p → Refuses bytes reason → ⊥
+  pub one_reason : (bytes : List ℕ) (r s : ProjectReason) → Refuses bytes r → Refuses bytes s → r ≡ s
+  pub one_script : (bytes : List ℕ) (p q : List EditModel) → scripts.Holds bytes p → scripts.Holds bytes q → p ≡ q
+  pub no_fault : (bytes : List ℕ) (p : List EditModel) (e : ScriptErr) → scripts.Holds bytes p → scripts.Refuses bytes e → ⊥
+  pub one_fault : (bytes : List ℕ) (e f : ScriptErr) → scripts.Refuses bytes e → scripts.Refuses bytes f → e ≡ f
 
-abbrev pub NoRefusal : Type 0
-NoRefusal = (bytes : List ℕ) (p : Project) (reason : ProjectReason) → Holds bytes p → Refuses bytes reason → ⊥
-
-abbrev pub OneReason : Type 0
-OneReason = (bytes : List ℕ) (r s : ProjectReason) → Refuses bytes r → Refuses bytes s → r ≡ s
-
--- what named files give: no project, a project and no schedule, or both
+-- what named files give: no project, a project and no script, these and no schedule, or all three
 data Given : Type 0 where
   NoProject : ProjectReason → Given
+  NoScript : ScriptReason → Given
   NoSchedule : ScriptReason → Given
-  Both : Project → List ℕ → Given
+  All : Project → List Edit → List ℕ → Given
 
 -- the file that is told gives the project
 abbrev GivesProject : Option (List ℕ) → Project → Type 0
@@ -63,16 +69,38 @@ abbrev GivesSchedule : Bool → Option (List ℕ) → List ℕ → Type 0
 GivesSchedule true held channels = channels ≡ []
 GivesSchedule false held channels = (bytes : List ℕ) × (held ≡ Some bytes) × IsSchedule bytes channels
 
--- what files give of which one is told to hold the project, and the other the schedule, unless the word for it is a hyphen
-abbrev Gives : Option (List ℕ) → Bool → Option (List ℕ) → Given → Type 0
-Gives held hyphen told (NoProject reason) = (bytes : List ℕ) × (held ≡ Some bytes) × Refuses bytes reason
-Gives held hyphen told (NoSchedule reason) = ((p : Project) × GivesProject held p) × (hyphen ≡ false) × ((bytes : List ℕ) × (told ≡ Some bytes) × RefusesSchedule bytes reason)
-Gives held hyphen told (Both p channels) = GivesProject held p × GivesSchedule hyphen told channels
+-- the word gives the script: a hyphen none, and a name that of the file that is told
+abbrev GivesScript : Bool → Option (List ℕ) → List Edit → Type 0
+GivesScript true held edits = edits ≡ []
+GivesScript false held edits = (bytes : List ℕ) × (held ≡ Some bytes) × IsScript bytes edits
+
+-- what a word names: whether it is a hyphen, and what its file is told to hold
+abbrev Word : Type 0
+Word = Bool × Option (List ℕ)
+
+abbrev word_of : (List ℕ → Option (List ℕ)) → List ℕ → Word
+word_of holds word = (is_hyphen word, holds word)
+
+-- a word that stands for no file
+abbrev none_named : Word
+none_named = (true, None)
+
+-- the word names a file that is told, of which this is refused
+abbrev GivesNone : Word → (List ℕ → Type 0) → Type 0
+GivesNone word IsRefused = (word.0 ≡ false) × ((bytes : List ℕ) × (word.1 ≡ Some bytes) × IsRefused bytes)
+
+-- what files give of which one is told to hold the project, and others are named for the script and the schedule
+abbrev Gives : Option (List ℕ) → Word → Word → Given → Type 0
+Gives held script schedule (NoProject reason) = (bytes : List ℕ) × (held ≡ Some bytes) × Refuses bytes reason
+Gives held script schedule (NoScript reason) = ((p : Project) × GivesProject held p) × GivesNone script (λ bytes. RefusesScript bytes reason)
+Gives held script schedule (NoSchedule reason) =
+    ((p : Project) × GivesProject held p) × ((edits : List Edit) × GivesScript script.0 script.1 edits) × GivesNone schedule (λ bytes. RefusesSchedule bytes reason)
+Gives held script schedule (All p edits channels) = GivesProject held p × GivesScript script.0 script.1 edits × GivesSchedule schedule.0 schedule.1 channels
 
 -- what the files give that a meaning names; one fixed value stands for a meaning that names none
 abbrev Read : (List ℕ → Option (List ℕ)) → Meaning → Given → Type 0
-Read holds (Replay name schedule limit) g = Gives (holds name) (is_hyphen schedule) (holds schedule) g
-Read holds (Path name n) g = Gives (holds name) true None g
+Read holds (Replay name script schedule limit) g = Gives (holds name) (word_of holds script) (word_of holds schedule) g
+Read holds (Path name n) g = Gives (holds name) none_named none_named g
 Read holds Help g = g ≡ NoProject reasons.TooLong
 Read holds Version g = g ≡ NoProject reasons.TooLong
 Read holds (Bad place) g = g ≡ NoProject reasons.TooLong
@@ -92,18 +120,20 @@ record Present (p : Project) (n : ℕ) (s : Status) (x : List ℕ) : Type 0 wher
   step : IsStep p n definition
   says : Are s x statuses.Written (blocks_text (path_of definition))
 
--- the project ran under the schedule, and its log is written
-record Ran (p : Project) (channels : List ℕ) (limit : ℕ) (s : Status) (x : List ℕ) : Type 0 where
+-- the project and the edits ran under the schedule, and their log is written
+record Ran (p : Project) (edits : List Edit) (channels : List ℕ) (limit : ℕ) (s : Status) (x : List ℕ) : Type 0 where
   ending : Ending
-  run : IsRun p.entities [] limit (replayed p channels limit) ending
-  says : Are s x (ending_status ending) (text_of (replayed p channels limit) ending)
+  run : IsRun p.entities edits limit (replayed p edits channels limit) ending
+  says : Are s x (ending_status ending) (text_of (replayed p edits channels limit) ending)
 
 -- the status and the text that follow from what the words mean and what the files give
 abbrev Follows : Meaning → Given → Status → List ℕ → Type 0
-Follows (Replay name schedule limit) (Both p channels) s x = Ran p channels limit s x
-Follows (Replay name schedule limit) (NoSchedule reason) s x = Are s x (statuses.ScriptRefused reason) (script_line reason)
-Follows (Replay name schedule limit) (NoProject reason) s x = Are s x (statuses.ProjectRefused reason) (refusal_line reason)
-Follows (Path name n) (Both p channels) s x = Absent p n s x ⊎ Present p n s x
+Follows (Replay name script schedule limit) (All p edits channels) s x = Ran p edits channels limit s x
+Follows (Replay name script schedule limit) (NoSchedule reason) s x = Are s x (statuses.ScriptRefused reason) (script_line reason)
+Follows (Replay name script schedule limit) (NoScript reason) s x = Are s x (statuses.ScriptRefused reason) (script_line reason)
+Follows (Replay name script schedule limit) (NoProject reason) s x = Are s x (statuses.ProjectRefused reason) (refusal_line reason)
+Follows (Path name n) (All p edits channels) s x = Absent p n s x ⊎ Present p n s x
+Follows (Path name n) (NoScript reason) s x = ⊥
 Follows (Path name n) (NoSchedule reason) s x = ⊥
 Follows (Path name n) (NoProject reason) s x = Are s x (statuses.ProjectRefused reason) (refusal_line reason)
 Follows Help g s x = Are s x statuses.Written help_text
@@ -132,24 +162,43 @@ told_schedule : (hyphen : Bool) (held : Option (List ℕ)) (channels : List ℕ)
 told_schedule true held channels told is = is
 told_schedule false held channels told is = told_of (λ bytes. IsSchedule bytes channels) held (told refl) is
 
--- what the words of a replay give
-gives_both : (ws : List (List ℕ)) (holds : List ℕ → Option (List ℕ)) (name schedule channels : List ℕ) (limit : ℕ) (p : Project) → IsTold ws holds → IsReplay ws name schedule limit → HoldsProject holds name p
-    → IsScheduled holds schedule channels → Gives (holds name) (is_hyphen schedule) (holds schedule) (Both p channels)
-gives_both ws holds name schedule channels limit p told asked held scheduled = (
-  told_of (λ bytes. Holds bytes p) (holds name) (told name (inl (inl (schedule, limit, asked)))) held,
-  told_schedule (is_hyphen schedule) (holds schedule) channels (λ named. told schedule (inr (name, limit, asked, named))) scheduled,
+told_script : (hyphen : Bool) (held : Option (List ℕ)) (edits : List Edit) → (hyphen ≡ false → (bytes : List ℕ) × (held ≡ Some bytes)) → ScriptedBy hyphen held edits → GivesScript hyphen held edits
+told_script true held edits told is = is
+told_script false held edits told is = told_of (λ bytes. IsScript bytes edits) held (told refl) is
+
+-- what the words of a replay give, one by one
+project_given : (ws : List (List ℕ)) (holds : List ℕ → Option (List ℕ)) (name script schedule : List ℕ) (limit : ℕ) (p : Project) → IsTold ws holds → IsReplay ws name script schedule limit → HoldsProject holds name p
+    → GivesProject (holds name) p
+project_given ws holds name script schedule limit p told asked held = told_of (λ bytes. Holds bytes p) (holds name) (told name (inl (inl (script, schedule, limit, asked)))) held
+
+script_given : (ws : List (List ℕ)) (holds : List ℕ → Option (List ℕ)) (name script schedule : List ℕ) (limit : ℕ) (edits : List Edit) → IsTold ws holds → IsReplay ws name script schedule limit
+    → IsScripted holds script edits → GivesScript (is_hyphen script) (holds script) edits
+script_given ws holds name script schedule limit edits told asked scripted =
+    told_script (is_hyphen script) (holds script) edits (λ named. told script (inr (inl (name, schedule, limit, asked, named)))) scripted
+
+schedule_given : (ws : List (List ℕ)) (holds : List ℕ → Option (List ℕ)) (name script schedule channels : List ℕ) (limit : ℕ) → IsTold ws holds → IsReplay ws name script schedule limit
+    → IsScheduled holds schedule channels → GivesSchedule (is_hyphen schedule) (holds schedule) channels
+schedule_given ws holds name script schedule channels limit told asked scheduled =
+    told_schedule (is_hyphen schedule) (holds schedule) channels (λ named. told schedule (inr (inr (name, script, limit, asked, named)))) scheduled
+
+gives_all : (ws : List (List ℕ)) (holds : List ℕ → Option (List ℕ)) (name script schedule channels : List ℕ) (limit : ℕ) (p : Project) (edits : List Edit) → IsTold ws holds → IsReplay ws name script schedule limit
+    → HoldsProject holds name p → IsScripted holds script edits → IsScheduled holds schedule channels → Gives (holds name) (word_of holds script) (word_of holds schedule) (All p edits channels)
+gives_all ws holds name script schedule channels limit p edits told asked held scripted scheduled = (
+  project_given ws holds name script schedule limit p told asked held,
+  script_given ws holds name script schedule limit edits told asked scripted,
+  schedule_given ws holds name script schedule channels limit told asked scheduled,
 )
 
 -- the cause of each right answer
 of_log : (ws : List (List ℕ)) (holds : List ℕ → Option (List ℕ)) (s : Status) (x : List ℕ) (t : List Entry) (ending : Ending) → IsTold ws holds → IsLog ws holds t ending → s ≡ ending_status ending → x ≡ text_of t ending → Caused ws holds s x
 of_log ws holds s x t ending told is says text = record {
-  meaning = Replay is.name is.schedule is.limit;
+  meaning = Replay is.name is.script is.schedule is.limit;
   means = is.asked;
-  given = Both is.project is.channels;
-  read = gives_both ws holds is.name is.schedule is.channels is.limit is.project told is.asked is.held is.scheduled;
+  given = All is.project is.edits is.channels;
+  read = gives_all ws holds is.name is.script is.schedule is.channels is.limit is.project is.edits told is.asked is.held is.scripted is.scheduled;
   follows = record {
     ending = ending;
-    run = subst (λ (u : List Entry). IsRun is.project.entities [] is.limit u ending) is.replayed_so is.run;
+    run = subst (λ (u : List Entry). IsRun is.project.entities is.edits is.limit u ending) is.replayed_so is.run;
     says = (says, text ∙ ap (λ (u : List Entry). text_of u ending) is.replayed_so);
   };
 }
@@ -158,8 +207,8 @@ of_path : (ws : List (List ℕ)) (holds : List ℕ → Option (List ℕ)) (x : L
 of_path ws holds x d told is text = record {
   meaning = Path is.name is.number;
   means = is.asked;
-  given = Both is.project [];
-  read = (told_of (λ bytes. Holds bytes is.project) (holds is.name) (told is.name (inl (inr (is.number, is.asked)))) is.held, refl);
+  given = All is.project [] [];
+  read = (told_of (λ bytes. Holds bytes is.project) (holds is.name) (told is.name (inl (inr (is.number, is.asked)))) is.held, refl, refl);
   follows = inr (record { definition = d; step = is.step; says = (refl, text) });
 }
 
@@ -171,7 +220,7 @@ of_written ws holds x told (inr (inr is)) = record { meaning = Version; means = 
 of_file : (ws : List (List ℕ)) (holds : List ℕ → Option (List ℕ)) (x : List ℕ) (reason : ProjectReason) (name : List ℕ) → NamesProject ws name → (bytes : List ℕ) × (holds name ≡ Some bytes) × Refuses bytes reason
     → x ≡ refusal_line reason → Caused ws holds (statuses.ProjectRefused reason) x
 of_file ws holds x reason name (inl named) gives text =
-    record { meaning = Replay name named.0 named.1; means = named.2; given = NoProject reason; read = gives; follows = (refl, text) }
+    record { meaning = Replay name named.0 named.1 named.2; means = named.3; given = NoProject reason; read = gives; follows = (refl, text) }
 of_file ws holds x reason name (inr named) gives text = record { meaning = Path name named.0; means = named.1; given = NoProject reason; read = gives; follows = (refl, text) }
 
 of_no_project : (ws : List (List ℕ)) (holds : List ℕ → Option (List ℕ)) (x : List ℕ) (reason : ProjectReason) → IsTold ws holds → HasNoProject ws holds reason → x ≡ refusal_line reason
@@ -183,18 +232,37 @@ of_no_step : (ws : List (List ℕ)) (holds : List ℕ → Option (List ℕ)) (x 
     → Caused ws holds (statuses.ProjectRefused (reasons.NoStep n)) x
 of_no_step ws holds x n told is text =
     let h = told_absence (holds is.name) n (told is.name (inl (inr (n, is.asked)))) is.absent in
-    record { meaning = Path is.name n; means = is.asked; given = Both h.0 []; read = (h.1, refl); follows = inl (record { absent = h.2; says = (refl, text) }) }
+    record { meaning = Path is.name n; means = is.asked; given = All h.0 [] []; read = (h.1, refl, refl); follows = inl (record { absent = h.2; says = (refl, text) }) }
+
+of_no_script : (ws : List (List ℕ)) (holds : List ℕ → Option (List ℕ)) (x : List ℕ) (reason : ScriptReason) → IsTold ws holds → HasNoScript ws holds reason → x ≡ script_line reason
+    → Caused ws holds (statuses.ScriptRefused reason) x
+of_no_script ws holds x reason told is text = record {
+  meaning = Replay is.name is.script is.schedule is.limit;
+  means = is.asked;
+  given = NoScript reason;
+  read = (
+    (is.project, project_given ws holds is.name is.script is.schedule is.limit is.project told is.asked is.held),
+    (
+      is.unscripted.named,
+      told_of (λ bytes. RefusesScript bytes reason) (holds is.script) (told is.script (inr (inl (is.name, is.schedule, is.limit, is.asked, is.unscripted.named)))) is.unscripted.refused,
+    ),
+  );
+  follows = (refl, text);
+}
 
 of_no_schedule : (ws : List (List ℕ)) (holds : List ℕ → Option (List ℕ)) (x : List ℕ) (reason : ScriptReason) → IsTold ws holds → HasNoSchedule ws holds reason → x ≡ script_line reason
     → Caused ws holds (statuses.ScriptRefused reason) x
 of_no_schedule ws holds x reason told is text = record {
-  meaning = Replay is.name is.schedule is.limit;
+  meaning = Replay is.name is.script is.schedule is.limit;
   means = is.asked;
   given = NoSchedule reason;
   read = (
-    (is.project, told_of (λ bytes. Holds bytes is.project) (holds is.name) (told is.name (inl (inl (is.schedule, is.limit, is.asked)))) is.held),
-    is.unscheduled.named,
-    told_of (λ bytes. RefusesSchedule bytes reason) (holds is.schedule) (told is.schedule (inr (is.name, is.limit, is.asked, is.unscheduled.named))) is.unscheduled.refused,
+    (is.project, project_given ws holds is.name is.script is.schedule is.limit is.project told is.asked is.held),
+    (is.edits, script_given ws holds is.name is.script is.schedule is.limit is.edits told is.asked is.scripted),
+    (
+      is.unscheduled.named,
+      told_of (λ bytes. RefusesSchedule bytes reason) (holds is.schedule) (told is.schedule (inr (inr (is.name, is.script, is.limit, is.asked, is.unscheduled.named)))) is.unscheduled.refused,
+    ),
   );
   follows = (refl, text);
 }
@@ -216,7 +284,8 @@ caused ws holds statuses.RunLimit x told is = of_log ws holds statuses.RunLimit 
 caused ws holds statuses.Written x told is = of_written ws holds x told is
 caused ws holds (statuses.BadWords place) x told is = record { meaning = Bad place; means = is.0; given = NoProject reasons.TooLong; read = refl; follows = (refl, is.1) }
 caused ws holds (statuses.ProjectRefused reason) x told is = of_refused ws holds x reason told is.0 is.1
-caused ws holds (statuses.ScriptRefused reason) x told is = of_no_schedule ws holds x reason told is.0 is.1
+caused ws holds (statuses.ScriptRefused reason) x told (inl is, text) = of_no_script ws holds x reason told is text
+caused ws holds (statuses.ScriptRefused reason) x told (inr is, text) = of_no_schedule ws holds x reason told is text
 caused ws holds statuses.ReadFault x told is = absurd is
 caused ws holds statuses.WriteFault x told is = absurd is
 caused ws holds statuses.NoMemory x told is = absurd is
@@ -231,54 +300,95 @@ same_bytes held a b e f = let same : some_bytes a ≡ some_bytes b = sym e ∙ f
 abbrev some_place : ℕ → Option ℕ
 some_place place = Some place
 
-same_script : (bytes : List ℕ) (r s : ScriptReason) → RefusesSchedule bytes r → RefusesSchedule bytes s → r ≡ s
-same_script bytes script.TooLong script.TooLong h k = refl
-same_script bytes script.TooLong (script.Schedule b) h k = let short = k.0 in absurd (omega (arith, h))
-same_script bytes (script.Schedule a) script.TooLong h k = let short = h.0 in absurd (omega (arith, k))
-same_script bytes (script.Schedule a) (script.Schedule b) h k = let same : some_place a ≡ some_place b = sym h.1 ∙ k.1 in cc
+same_refusal : (bytes : List ℕ) (r s : ScriptReason) → RefusesSchedule bytes r → RefusesSchedule bytes s → r ≡ s
+same_refusal bytes refusals.TooLong refusals.TooLong h k = refl
+same_refusal bytes refusals.TooLong (refusals.Schedule b) h k = let short = k.0 in absurd (omega (arith, h))
+same_refusal bytes (refusals.Schedule a) refusals.TooLong h k = let short = h.0 in absurd (omega (arith, k))
+same_refusal bytes (refusals.Schedule a) (refusals.Schedule b) h k = let same : some_place a ≡ some_place b = sym h.1 ∙ k.1 in cc
+same_refusal bytes (refusals.Script e) s h k = absurd h
+same_refusal bytes refusals.TooLong (refusals.Script e) h k = absurd k
+same_refusal bytes (refusals.Schedule a) (refusals.Script e) h k = absurd k
 
 no_place : (place : ℕ) → some_place place ≡ None → ⊥
 no_place place e = absurd (cc)
 
 not_both : (bytes channels : List ℕ) (reason : ScriptReason) → IsSchedule bytes channels → RefusesSchedule bytes reason → ⊥
-not_both bytes channels script.TooLong is refused = let short = is.short in absurd (omega (arith, refused))
-not_both bytes channels (script.Schedule place) is refused = no_place place (sym refused.1 ∙ is.allowed)
+not_both bytes channels refusals.TooLong is refused = let short = is.short in absurd (omega (arith, refused))
+not_both bytes channels (refusals.Script e) is refused = absurd refused
+not_both bytes channels (refusals.Schedule place) is refused = no_place place (sym refused.1 ∙ is.allowed)
 
 same_schedule : (hyphen : Bool) (held : Option (List ℕ)) (a b : List ℕ) → GivesSchedule hyphen held a → GivesSchedule hyphen held b → a ≡ b
 same_schedule true held a b h k = h ∙ sym k
 same_schedule false held a b h k = h.2.channels_are ∙ sym (subst (λ (bytes : List ℕ). IsSchedule bytes b) (same_bytes held k.0 h.0 k.1 h.1) k.2).channels_are
 
-no_schedule : (hyphen : Bool) (held : Option (List ℕ)) (channels : List ℕ) (reason : ScriptReason) → hyphen ≡ false → GivesSchedule hyphen held channels → (bytes : List ℕ) × (held ≡ Some bytes) × RefusesSchedule bytes reason → ⊥
-no_schedule true held channels reason named h k = absurd (cc)
-no_schedule false held channels reason named h k = not_both h.0 channels reason h.2 (subst (λ (bytes : List ℕ). RefusesSchedule bytes reason) (same_bytes held k.0 h.0 k.1 h.1) k.2)
+no_schedule : (hyphen : Bool) (held : Option (List ℕ)) (channels : List ℕ) (reason : ScriptReason) → GivesSchedule hyphen held channels → GivesNone (hyphen, held) (λ bytes. RefusesSchedule bytes reason) → ⊥
+no_schedule true held channels reason h k = let named = k.0 in absurd (cc)
+no_schedule false held channels reason h k = not_both h.0 channels reason h.2 (subst (λ (bytes : List ℕ). RefusesSchedule bytes reason) (same_bytes held k.1.0 h.0 k.1.1 h.1) k.1.2)
+
+no_turns : (held : Option (List ℕ)) (hyphen : Bool) (r q : ScriptReason) → GivesNone (hyphen, held) (λ bytes. RefusesSchedule bytes r) → GivesNone (hyphen, held) (λ bytes. RefusesSchedule bytes q) → r ≡ q
+no_turns held hyphen r q h k = same_refusal h.1.0 r q h.1.2 (subst (λ (bytes : List ℕ). RefusesSchedule bytes q) (same_bytes held k.1.0 h.1.0 k.1.1 h.1.1) k.1.2)
+
+-- a text is one script, or none for one reason
+same_reason : Laws → (bytes : List ℕ) (r s : ScriptReason) → RefusesScript bytes r → RefusesScript bytes s → r ≡ s
+same_reason laws bytes refusals.TooLong refusals.TooLong h k = refl
+same_reason laws bytes refusals.TooLong (refusals.Script f) h k = let short = k.0 in absurd (omega (arith, h))
+same_reason laws bytes (refusals.Script e) refusals.TooLong h k = let short = h.0 in absurd (omega (arith, k))
+same_reason laws bytes (refusals.Script e) (refusals.Script f) h k = ap refusals.Script (laws.one_fault bytes e f h.1 k.1)
+same_reason laws bytes (refusals.Schedule a) s h k = absurd h
+same_reason laws bytes refusals.TooLong (refusals.Schedule b) h k = absurd k
+same_reason laws bytes (refusals.Script e) (refusals.Schedule b) h k = absurd k
+
+not_edits : Laws → (bytes : List ℕ) (edits : List Edit) (reason : ScriptReason) → IsScript bytes edits → RefusesScript bytes reason → ⊥
+not_edits laws bytes edits refusals.TooLong is refused = let short = is.short in absurd (omega (arith, refused))
+not_edits laws bytes edits (refusals.Script e) is refused = laws.no_fault bytes (map model_of edits) e is.held refused.1
+not_edits laws bytes edits (refusals.Schedule place) is refused = absurd refused
+
+same_script : Laws → (hyphen : Bool) (held : Option (List ℕ)) (a b : List Edit) → GivesScript hyphen held a → GivesScript hyphen held b → a ≡ b
+same_script laws true held a b h k = h ∙ sym k
+same_script laws false held a b h k =
+    same_edits a b (laws.one_script h.0 (map model_of a) (map model_of b) h.2.held (subst (λ (bytes : List ℕ). IsScript bytes b) (same_bytes held k.0 h.0 k.1 h.1) k.2).held)
+
+no_script : Laws → (hyphen : Bool) (held : Option (List ℕ)) (edits : List Edit) (reason : ScriptReason) → GivesScript hyphen held edits → GivesNone (hyphen, held) (λ bytes. RefusesScript bytes reason) → ⊥
+no_script laws true held edits reason h k = let named = k.0 in absurd (cc)
+no_script laws false held edits reason h k = not_edits laws h.0 edits reason h.2 (subst (λ (bytes : List ℕ). RefusesScript bytes reason) (same_bytes held k.1.0 h.0 k.1.1 h.1) k.1.2)
+
+no_edits : Laws → (held : Option (List ℕ)) (hyphen : Bool) (r q : ScriptReason) → GivesNone (hyphen, held) (λ bytes. RefusesScript bytes r) → GivesNone (hyphen, held) (λ bytes. RefusesScript bytes q) → r ≡ q
+no_edits laws held hyphen r q h k = same_reason laws h.1.0 r q h.1.2 (subst (λ (bytes : List ℕ). RefusesScript bytes q) (same_bytes held k.1.0 h.1.0 k.1.1 h.1.1) k.1.2)
 
 -- a file that is told holds one project, or none
-same_project : OneProject → (held : Option (List ℕ)) (p q : Project) → GivesProject held p → GivesProject held q → p ≡ q
-same_project one held p q h k = one h.0 p q h.2 (subst (λ (bytes : List ℕ). Holds bytes q) (same_bytes held k.0 h.0 k.1 h.1) k.2)
+same_project : Laws → (held : Option (List ℕ)) (p q : Project) → GivesProject held p → GivesProject held q → p ≡ q
+same_project laws held p q h k = laws.one_project h.0 p q h.2 (subst (λ (bytes : List ℕ). Holds bytes q) (same_bytes held k.0 h.0 k.1 h.1) k.2)
 
-no_project : NoRefusal → (held : Option (List ℕ)) (p : Project) (reason : ProjectReason) → GivesProject held p → (bytes : List ℕ) × (held ≡ Some bytes) × Refuses bytes reason → ⊥
-no_project apart held p reason h k = apart h.0 p reason h.2 (subst (λ (bytes : List ℕ). Refuses bytes reason) (same_bytes held k.0 h.0 k.1 h.1) k.2)
+no_project : Laws → (held : Option (List ℕ)) (p : Project) (reason : ProjectReason) → GivesProject held p → (bytes : List ℕ) × (held ≡ Some bytes) × Refuses bytes reason → ⊥
+no_project laws held p reason h k = laws.no_refusal h.0 p reason h.2 (subst (λ (bytes : List ℕ). Refuses bytes reason) (same_bytes held k.0 h.0 k.1 h.1) k.2)
 
 -- files that are told give one thing
-gives_one : OneProject → NoRefusal → OneReason → (held : Option (List ℕ)) (hyphen : Bool) (told : Option (List ℕ)) (g f : Given) → Gives held hyphen told g → Gives held hyphen told f → g ≡ f
-gives_one one apart single held hyphen told (NoProject r) (NoProject q) h k = ap NoProject (single h.0 r q h.2 (subst (λ (bytes : List ℕ). Refuses bytes q) (same_bytes held k.0 h.0 k.1 h.1) k.2))
-gives_one one apart single held hyphen told (NoProject r) (NoSchedule q) h k = absurd (no_project apart held k.0.0 r k.0.1 h)
-gives_one one apart single held hyphen told (NoProject r) (Both q channels) h k = absurd (no_project apart held q r k.0 h)
-gives_one one apart single held hyphen told (NoSchedule r) (NoProject q) h k = absurd (no_project apart held h.0.0 q h.0.1 k)
-gives_one one apart single held hyphen told (NoSchedule r) (NoSchedule q) h k =
-    ap NoSchedule (same_script h.2.0 r q h.2.2 (subst (λ (bytes : List ℕ). RefusesSchedule bytes q) (same_bytes told k.2.0 h.2.0 k.2.1 h.2.1) k.2.2))
-gives_one one apart single held hyphen told (NoSchedule r) (Both q channels) h k = absurd (no_schedule hyphen told channels r h.1 k.1 h.2)
-gives_one one apart single held hyphen told (Both p channels) (NoProject q) h k = absurd (no_project apart held p q h.0 k)
-gives_one one apart single held hyphen told (Both p channels) (NoSchedule q) h k = absurd (no_schedule hyphen told channels q k.1 h.1 k.2)
-gives_one one apart single held hyphen told (Both p channels) (Both q others) h k =
-    ap (λ (r : Project). Both r channels) (same_project one held p q h.0 k.0) ∙ ap (Both q) (same_schedule hyphen told channels others h.1 k.1)
+gives_one : Laws → (held : Option (List ℕ)) (script schedule : Word) (g f : Given) → Gives held script schedule g → Gives held script schedule f → g ≡ f
+gives_one laws held script schedule (NoProject r) (NoProject q) h k = ap NoProject (laws.one_reason h.0 r q h.2 (subst (λ (bytes : List ℕ). Refuses bytes q) (same_bytes held k.0 h.0 k.1 h.1) k.2))
+gives_one laws held script schedule (NoProject r) (NoScript q) h k = absurd (no_project laws held k.0.0 r k.0.1 h)
+gives_one laws held script schedule (NoProject r) (NoSchedule q) h k = absurd (no_project laws held k.0.0 r k.0.1 h)
+gives_one laws held script schedule (NoProject r) (All q edits channels) h k = absurd (no_project laws held q r k.0 h)
+gives_one laws held script schedule (NoScript r) (NoProject q) h k = absurd (no_project laws held h.0.0 q h.0.1 k)
+gives_one laws held script schedule (NoScript r) (NoScript q) h k = ap NoScript (no_edits laws script.1 script.0 r q h.1 k.1)
+gives_one laws held script schedule (NoScript r) (NoSchedule q) h k = absurd (no_script laws script.0 script.1 k.1.0 r k.1.1 h.1)
+gives_one laws held script schedule (NoScript r) (All q edits channels) h k = absurd (no_script laws script.0 script.1 edits r k.1 h.1)
+gives_one laws held script schedule (NoSchedule r) (NoProject q) h k = absurd (no_project laws held h.0.0 q h.0.1 k)
+gives_one laws held script schedule (NoSchedule r) (NoScript q) h k = absurd (no_script laws script.0 script.1 h.1.0 q h.1.1 k.1)
+gives_one laws held script schedule (NoSchedule r) (NoSchedule q) h k = ap NoSchedule (no_turns schedule.1 schedule.0 r q h.2 k.2)
+gives_one laws held script schedule (NoSchedule r) (All q edits channels) h k = absurd (no_schedule schedule.0 schedule.1 channels r k.2 h.2)
+gives_one laws held script schedule (All p edits channels) (NoProject q) h k = absurd (no_project laws held p q h.0 k)
+gives_one laws held script schedule (All p edits channels) (NoScript q) h k = absurd (no_script laws script.0 script.1 edits q h.1 k.1)
+gives_one laws held script schedule (All p edits channels) (NoSchedule q) h k = absurd (no_schedule schedule.0 schedule.1 channels q h.2 k.2)
+gives_one laws held script schedule (All p edits channels) (All q others turns) h k =
+    ap (λ (r : Project). All r edits channels) (same_project laws held p q h.0 k.0) ∙ ap (λ (es : List Edit). All q es channels) (same_script laws script.0 script.1 edits others h.1 k.1)
+    ∙ ap (All q others) (same_schedule schedule.0 schedule.1 channels turns h.2 k.2)
 
-read_one : OneProject → NoRefusal → OneReason → (holds : List ℕ → Option (List ℕ)) (m : Meaning) (g f : Given) → Read holds m g → Read holds m f → g ≡ f
-read_one one apart single holds (Replay name schedule limit) g f h k = gives_one one apart single (holds name) (is_hyphen schedule) (holds schedule) g f h k
-read_one one apart single holds (Path name n) g f h k = gives_one one apart single (holds name) true None g f h k
-read_one one apart single holds Help g f h k = h ∙ sym k
-read_one one apart single holds Version g f h k = h ∙ sym k
-read_one one apart single holds (Bad place) g f h k = h ∙ sym k
+read_one : Laws → (holds : List ℕ → Option (List ℕ)) (m : Meaning) (g f : Given) → Read holds m g → Read holds m f → g ≡ f
+read_one laws holds (Replay name script schedule limit) g f h k = gives_one laws (holds name) (word_of holds script) (word_of holds schedule) g f h k
+read_one laws holds (Path name n) g f h k = gives_one laws (holds name) none_named none_named g f h k
+read_one laws holds Help g f h k = h ∙ sym k
+read_one laws holds Version g f h k = h ∙ sym k
+read_one laws holds (Bad place) g f h k = h ∙ sym k
 
 both_are : (s t u : Status) (x y z : List ℕ) → Are s x u z → Are t y u z → Are s x t y
 both_are s t u x y z h k = (h.0 ∙ sym k.0, h.1 ∙ sym k.1)
@@ -308,17 +418,19 @@ one_ending r limit t endings.Limit endings.Done h k = absurd (h.not_done k)
 one_ending r limit t endings.Limit endings.Blocked h k = absurd (h.not_blocked k)
 one_ending r limit t endings.Limit endings.Limit h k = refl
 
-agree_run : (p : Project) (channels : List ℕ) (limit : ℕ) (s t : Status) (x y : List ℕ) → Ran p channels limit s x → Ran p channels limit t y → Are s x t y
-agree_run p channels limit s t x y h k =
-    let log = replayed p channels limit in
-    let same : k.ending ≡ h.ending = one_ending (rules_of p.entities []) limit log k.ending h.ending k.run.ends h.run.ends in
+agree_run : (p : Project) (edits : List Edit) (channels : List ℕ) (limit : ℕ) (s t : Status) (x y : List ℕ) → Ran p edits channels limit s x → Ran p edits channels limit t y → Are s x t y
+agree_run p edits channels limit s t x y h k =
+    let log = replayed p edits channels limit in
+    let same : k.ending ≡ h.ending = one_ending (rules_of p.entities edits) limit log k.ending h.ending k.run.ends h.run.ends in
     both_are s t _ x y _ h.says (k.says.0 ∙ ap ending_status same, k.says.1 ∙ ap (λ (ending : Ending). text_of log ending) same)
 
 follow_one : (m : Meaning) (g : Given) (s t : Status) (x y : List ℕ) → Follows m g s x → Follows m g t y → Are s x t y
-follow_one (Replay name schedule limit) (Both p channels) s t x y h k = agree_run p channels limit s t x y h k
-follow_one (Replay name schedule limit) (NoSchedule reason) s t x y h k = both_are s t _ x y _ h k
-follow_one (Replay name schedule limit) (NoProject reason) s t x y h k = both_are s t _ x y _ h k
-follow_one (Path name n) (Both p channels) s t x y h k = agree_step p n s t x y h k
+follow_one (Replay name script schedule limit) (All p edits channels) s t x y h k = agree_run p edits channels limit s t x y h k
+follow_one (Replay name script schedule limit) (NoSchedule reason) s t x y h k = both_are s t _ x y _ h k
+follow_one (Replay name script schedule limit) (NoScript reason) s t x y h k = both_are s t _ x y _ h k
+follow_one (Replay name script schedule limit) (NoProject reason) s t x y h k = both_are s t _ x y _ h k
+follow_one (Path name n) (All p edits channels) s t x y h k = agree_step p n s t x y h k
+follow_one (Path name n) (NoScript reason) s t x y h k = absurd h
 follow_one (Path name n) (NoSchedule reason) s t x y h k = absurd h
 follow_one (Path name n) (NoProject reason) s t x y h k = both_are s t _ x y _ h k
 follow_one Help g s t x y h k = both_are s t _ x y _ h k
@@ -326,22 +438,22 @@ follow_one Version g s t x y h k = both_are s t _ x y _ h k
 follow_one (Bad place) g s t x y h k = both_are s t _ x y _ h k
 
 -- what follows of causes that are known follows of an answer
-follows_of : OneMeaning → OneProject → NoRefusal → OneReason → (ws : List (List ℕ)) (holds : List ℕ → Option (List ℕ)) (m : Meaning) (g : Given) (s : Status) (x : List ℕ)
+follows_of : OneMeaning → Laws → (ws : List (List ℕ)) (holds : List ℕ → Option (List ℕ)) (m : Meaning) (g : Given) (s : Status) (x : List ℕ)
     → Mean ws m → Read holds m g → Caused ws holds s x → Follows m g s x
-follows_of one_meaning one apart single ws holds m g s x means read k =
+follows_of one_meaning laws ws holds m g s x means read k =
     let same : k.meaning ≡ m = one_meaning ws k.meaning m k.means means in
     let read_same : Read holds m k.given = subst (λ (o : Meaning). Read holds o k.given) same k.read in
-    let given : k.given ≡ g = read_one one apart single holds m k.given g read_same read in
+    let given : k.given ≡ g = read_one laws holds m k.given g read_same read in
     let follows : Follows m k.given s x = subst (λ (o : Meaning). Follows o k.given s x) same k.follows in
     subst (λ (f : Given). Follows m f s x) given follows
 
 -- right answers are the same
-pub one_answer : OneMeaning → OneProject → NoRefusal → OneReason → (ws : List (List ℕ)) (holds : List ℕ → Option (List ℕ)) (s t : Status) (x y : List ℕ) → IsTold ws holds → IsRight ws holds s x → IsRight ws holds t y
+pub one_answer : OneMeaning → Laws → (ws : List (List ℕ)) (holds : List ℕ → Option (List ℕ)) (s t : Status) (x y : List ℕ) → IsTold ws holds → IsRight ws holds s x → IsRight ws holds t y
     → (s ≡ t) × (x ≡ y)
-one_answer one_meaning one apart single ws holds s t x y told h k =
+one_answer one_meaning laws ws holds s t x y told h k =
     let first = caused ws holds s x told h in
     follow_one first.meaning first.given s t x y first.follows
-    (follows_of one_meaning one apart single ws holds first.meaning first.given t y first.means first.read (caused ws holds t y told k))
+    (follows_of one_meaning laws ws holds first.meaning first.given t y first.means first.read (caused ws holds t y told k))
 
 -- where nothing failed and memory didn't run out, the status and what was written are right
 right_or_none : {F : Type 0} (ws : List (List ℕ)) (before after : Outside F) (s : Status) → NoneFailed before after → Answered ws before after s
@@ -358,15 +470,15 @@ right_or_none ws before after (statuses.ProjectRefused reason) fine is = inr is
 right_or_none ws before after (statuses.ScriptRefused reason) fine is = inr is
 
 -- a replay of good files is complete
-pub complete : {F : Type 0} → OneMeaning → OneProject → NoRefusal → OneReason → (ws : List (List ℕ)) (before after : Outside F) (s : Status) (name schedule channels : List ℕ) (limit : ℕ) (p : Project)
-    → IsTold ws before.holds → IsReplay ws name schedule limit → HoldsProject before.holds name p → IsScheduled before.holds schedule channels → NoneFailed before after → Answered ws before after s
-    → (s ≡ statuses.NoMemory) ⊎ Completes p channels limit before after s
-complete one_meaning one apart single ws before after s name schedule channels limit p told asked held scheduled fine is =
+pub complete : {F : Type 0} → OneMeaning → Laws → (ws : List (List ℕ)) (before after : Outside F) (s : Status) (name script schedule channels : List ℕ) (limit : ℕ) (p : Project) (edits : List Edit)
+    → IsTold ws before.holds → IsReplay ws name script schedule limit → HoldsProject before.holds name p → IsScripted before.holds script edits → IsScheduled before.holds schedule channels → NoneFailed before after
+    → Answered ws before after s → (s ≡ statuses.NoMemory) ⊎ Completes p edits channels limit before after s
+complete one_meaning laws ws before after s name script schedule channels limit p edits told asked held scripted scheduled fine is =
     elim (right_or_none ws before after s fine is) [
       | inl none ↦ inl none
       | inr right ↦
-          let ran : Ran p channels limit s right.0 =
-          follows_of one_meaning one apart single ws before.holds (Replay name schedule limit) (Both p channels) s right.0 asked
-          (gives_both ws before.holds name schedule channels limit p told asked held scheduled) (caused ws before.holds s right.0 told right.1) in
+          let ran : Ran p edits channels limit s right.0 =
+          follows_of one_meaning laws ws before.holds (Replay name script schedule limit) (All p edits channels) s right.0 asked
+          (gives_all ws before.holds name script schedule channels limit p edits told asked held scripted scheduled) (caused ws before.holds s right.0 told right.1) in
           inr (record { ending = ran.ending; says = ran.says.0; run = ran.run; written = subst (λ (x : List ℕ). Writes before after x) ran.says.1 right.2 })
     ]

@@ -1,47 +1,97 @@
--- What comes of a project's file and of its schedule's, read one after the other.
-use Rattle.std.proofs.Common.{◌≡◌, ℕ, ◌+◌, ◌≤◌, Bool, List, [], Option, Some, None, Ok, Err, subst, arith, inl, inr}
+-- What comes of a project's file, of its script's and of its schedule's, read one after the other.
+use Rattle.std.proofs.Common.{◌≡◌, ℕ, ◌≤◌, Bool, List, Option, Some, None, Result, Ok, Err, subst, arith, inl, inr}
 use Rattle.std.specs.Prelude.{IfSome}
 use Rattle.std.specs.Global.{Vec}
 use Rattle.nc_outside.specs.Outside.{Rose}
 use Rattle.entity_types.specs.declared.entity.Entity.{Entity}
+use Rattle.entity_types.specs.declared.edit.Edit.{Edit}
 use Rattle.project_read.specs.Holds.{Holds}
 use Rattle.project_read.specs.Reads.{model_of}
 use Rattle.project_law.specs.Run.{IsRun}
 use Rattle.run_log.specs.declared.entry.Entry.{Entry}
 use Rattle.run_log.specs.declared.entry.Ending.{Ending}
+use Rattle.controller.specs.declared.answer.Answer.{Answer}
 use Rattle.controller.specs.declared.answer.Answer.TheVariants as answers
+use Rattle.controller.specs.declared.answer.Stop.{Stop}
 use Rattle.controller.specs.declared.answer.Stop.TheVariants as stops
 use Rattle.controller.specs.declared.unheld.Unheld.{Unheld}
 use Rattle.controller.specs.declared.unheld.Unheld.TheVariants as unheld
 use Rattle.controller.specs.Words.{is_hyphen}
+use Rattle.controller.specs.ScriptText.{ScriptedBy, RefusesScript}
 use Rattle.controller.specs.ScheduleText.{ScheduledBy, RefusesSchedule}
 use Rattle.controller.specs.Asked.{replayed}
-use Rattle.controller.specs.Calls.{ReadsFile, ReadsSchedule, OrReplayStops, Replays, answer_without}
+use Rattle.controller.specs.Calls.{ReadsFile, ReadsScript, ReadsSchedule, OrRunStops, Runs, OrReplayStops, Replays, answer_without}
 
--- a count that rose behind a stretch in which it didn't fall rose over the whole
+-- a count that rose behind stretches in which it didn't fall rose over the whole
 rose_later : (a b c : ℕ) → a ≤ b → Rose b c → Rose a c
 rose_later a b c le rose = omega (arith, rose)
+
+le_later : (a b c : ℕ) → a ≤ b → b ≤ c → a ≤ c
+le_later a b c le more = omega arith
 
 held_project : (held : Option (List ℕ)) (before now : ℕ) (p : List Entity) → ReadsFile held before now (Ok p) → IfSome held (λ bytes. Holds bytes (model_of p))
 held_project None before now p is = tt
 held_project (Some told) before now p is = subst (λ (bytes : List ℕ). Holds bytes (model_of p)) is.1 is.2
 
--- a run of the project under the schedule
-pub ran_so : (holds held : List ℕ → Option (List ℕ)) (before now first second : ℕ) (name schedule : List ℕ) (limit : ℕ) (p : List Entity) (channels : Vec ℕ) (t : List Entry) (ending : Ending)
-    → ReadsFile (holds name) before now (Ok p) → held schedule ≡ holds schedule → ReadsSchedule held schedule first second (Ok channels)
-    → t ≡ replayed (model_of p) channels.items limit → IsRun p [] limit t ending → Replays holds name schedule limit (answers.Ran t ending)
-ran_so holds held before now first second name schedule limit p channels t ending file kept scheduled log run =
-    (model_of p, held_project (holds name) before now p file, channels.items, subst (λ (o : Option (List ℕ)). ScheduledBy (is_hyphen schedule) o channels.items) kept scheduled, run, log)
+-- a run of the project and the edits under the schedule
+pub ran_so : (holds : List ℕ → Option (List ℕ)) (before now : ℕ) (schedule : List ℕ) (limit : ℕ) (p : List Entity) (edits : List Edit) (channels : Vec ℕ) (t : List Entry) (ending : Ending)
+    → ReadsSchedule holds schedule before now (Ok channels) → t ≡ replayed (model_of p) edits channels.items limit → IsRun p edits limit t ending → Runs holds (model_of p) edits schedule limit (answers.Ran t ending)
+ran_so holds before now schedule limit p edits channels t ending scheduled log run = (channels.items, scheduled, run, log)
 
 -- no run, for want of a schedule
-pub unscheduled : (holds held : List ℕ → Option (List ℕ)) (before mid now : List ℕ → ℕ) (name schedule : List ℕ) (limit : ℕ) (p : List Entity) (why : Unheld)
-    → ReadsFile (holds name) (before name) (mid name) (Ok p) → held schedule ≡ holds schedule → before schedule ≤ mid schedule → ReadsSchedule held schedule (mid schedule) (now schedule) (Err why)
-    → OrReplayStops name schedule before now (Replays holds name schedule limit) (answer_without why)
-unscheduled holds held before mid now name schedule limit p (unheld.Refused reason) file kept counted is = absurd is
-unscheduled holds held before mid now name schedule limit p (unheld.ScriptRefused reason) file kept counted is = (
+pub unscheduled : (holds : List ℕ → Option (List ℕ)) (before now : ℕ) (schedule : List ℕ) (limit : ℕ) (p : List Entity) (edits : List Edit) (why : Unheld) → ReadsSchedule holds schedule before now (Err why)
+    → OrRunStops schedule before now (Runs holds (model_of p) edits schedule limit) (answer_without why)
+unscheduled holds before now schedule limit p edits (unheld.Refused reason) is = absurd is
+unscheduled holds before now schedule limit p edits (unheld.ScriptRefused reason) is = is
+unscheduled holds before now schedule limit p edits (unheld.Stopped stop) is = is
+
+-- the names hold behind the reads what they held before them
+scheduled_before : (held holds : Option (List ℕ)) (hyphen : Bool) (channels : List ℕ) → held ≡ holds → ScheduledBy hyphen held channels → ScheduledBy hyphen holds channels
+scheduled_before held holds hyphen channels kept is = subst (λ (o : Option (List ℕ)). ScheduledBy hyphen o channels) kept is
+
+scripted_before : (held holds : Option (List ℕ)) (hyphen : Bool) (edits : List Edit) → held ≡ holds → ScriptedBy hyphen held edits → ScriptedBy hyphen holds edits
+scripted_before held holds hyphen edits kept is = subst (λ (o : Option (List ℕ)). ScriptedBy hyphen o edits) kept is
+
+-- what came of the run came of the replay, where the project and the script were read before it
+pub run_of_files : (holds read held : List ℕ → Option (List ℕ)) (before mid late now : List ℕ → ℕ) (name script schedule : List ℕ) (limit : ℕ) (p : List Entity) (edits : List Edit) (r : Result Answer Stop)
+    → ReadsFile (holds name) (before name) (mid name) (Ok p) → read script ≡ holds script → ReadsScript read script (mid script) (late script) (Ok edits)
+    → held schedule ≡ holds schedule → before schedule ≤ mid schedule → mid schedule ≤ late schedule → OrRunStops schedule (late schedule) (now schedule) (Runs held (model_of p) edits schedule limit) r
+    → OrReplayStops name script schedule before now (Replays holds name script schedule limit) r
+run_of_files holds read held before mid late now name script schedule limit p edits (Ok (answers.Ran t ending)) file kept scripted same first second is = (
   model_of p,
   held_project (holds name) (before name) (mid name) p file,
-  record { named = is.named; refused = subst (λ (o : Option (List ℕ)). IfSome o (λ bytes. RefusesSchedule bytes reason)) kept is.refused },
+  edits,
+  scripted_before (read script) (holds script) (is_hyphen script) edits kept scripted,
+  (is.0, scheduled_before (held schedule) (holds schedule) (is_hyphen schedule) is.0 same is.1, is.2, is.3),
 )
-unscheduled holds held before mid now name schedule limit p (unheld.Stopped stops.ReadFault) file kept counted is = inr (is.0, rose_later (before schedule) (mid schedule) (now schedule) counted is.1)
-unscheduled holds held before mid now name schedule limit p (unheld.Stopped stops.NoMemory) file kept counted is = tt
+run_of_files holds read held before mid late now name script schedule limit p edits (Ok (answers.ScriptRefused reason)) file kept scripted same first second is = (
+  model_of p,
+  held_project (holds name) (before name) (mid name) p file,
+  inr (
+    edits,
+    scripted_before (read script) (holds script) (is_hyphen script) edits kept scripted,
+    record { named = is.named; refused = subst (λ (o : Option (List ℕ)). IfSome o (λ bytes. RefusesSchedule bytes reason)) same is.refused },
+  ),
+)
+run_of_files holds read held before mid late now name script schedule limit p edits (Ok (answers.BadWords place)) file kept scripted same first second is = absurd is
+run_of_files holds read held before mid late now name script schedule limit p edits (Ok answers.Help) file kept scripted same first second is = absurd is
+run_of_files holds read held before mid late now name script schedule limit p edits (Ok answers.Version) file kept scripted same first second is = absurd is
+run_of_files holds read held before mid late now name script schedule limit p edits (Ok (answers.Refused reason)) file kept scripted same first second is = absurd is
+run_of_files holds read held before mid late now name script schedule limit p edits (Ok (answers.Shown d)) file kept scripted same first second is = absurd is
+run_of_files holds read held before mid late now name script schedule limit p edits (Err stops.ReadFault) file kept scripted same first second is =
+    inr (inr (is.0, rose_later (before schedule) (late schedule) (now schedule) (le_later (before schedule) (mid schedule) (late schedule) first second) is.1))
+run_of_files holds read held before mid late now name script schedule limit p edits (Err stops.NoMemory) file kept scripted same first second is = tt
+
+-- no replay, for want of a script
+pub unscripted : (holds read : List ℕ → Option (List ℕ)) (before mid now : List ℕ → ℕ) (name script schedule : List ℕ) (limit : ℕ) (p : List Entity) (why : Unheld)
+    → ReadsFile (holds name) (before name) (mid name) (Ok p) → read script ≡ holds script → before script ≤ mid script → ReadsScript read script (mid script) (now script) (Err why)
+    → OrReplayStops name script schedule before now (Replays holds name script schedule limit) (answer_without why)
+unscripted holds read before mid now name script schedule limit p (unheld.Refused reason) file kept counted is = absurd is
+unscripted holds read before mid now name script schedule limit p (unheld.ScriptRefused reason) file kept counted is = (
+  model_of p,
+  held_project (holds name) (before name) (mid name) p file,
+  inl (record { named = is.named; refused = subst (λ (o : Option (List ℕ)). IfSome o (λ bytes. RefusesScript bytes reason)) kept is.refused }),
+)
+unscripted holds read before mid now name script schedule limit p (unheld.Stopped stops.ReadFault) file kept counted is =
+    inr (inl (is.0, rose_later (before script) (mid script) (now script) counted is.1))
+unscripted holds read before mid now name script schedule limit p (unheld.Stopped stops.NoMemory) file kept counted is = tt

@@ -9,7 +9,7 @@ use Rattle.std.proofs.lemmas.List.{take_all}
 use Rattle.run_log.specs.declared.entry.TheConstants.{MAX_ENTRIES}
 use Rattle.controller.specs.declared.command.TheConstants.{LIMIT_DIGITS}
 use Rattle.controller.specs.Numerals.{value_of, is_number}
-use Rattle.controller.specs.Words.{Form, begins, is_line, AreBadAt, is_name, is_hyphen, is_limit, is_step, replay_line, path_line, help_line, version_line, IsReplay, IsPath}
+use Rattle.controller.specs.Words.{Form, begins, is_line, AreBadAt, is_name, is_limit, is_step, replay_line, path_line, help_line, version_line, IsReplay, IsPath}
 use Rattle.controller.specs.Commands.{is_some_of, has_word, HasWord}
 
 -- the word is of the form that stands there, if one does
@@ -124,7 +124,8 @@ short false e = absurd (cc)
 
 -- what stands in the words of a replay
 pub replay_shape : (ws : List (List ℕ)) → is_line ws replay_line ≡ true
-    → (name : List ℕ) × (schedule : List ℕ) × (last : List ℕ) × (slice_get ws 1 ≡ Some name) × (slice_get ws 3 ≡ Some schedule) × (slice_get ws 4 ≡ Some last) × (is_limit last ≡ true) × IsReplay ws name schedule (value_of last)
+    → (name : List ℕ) × (script : List ℕ) × (schedule : List ℕ) × (last : List ℕ) × (slice_get ws 1 ≡ Some name) × (slice_get ws 2 ≡ Some script) × (slice_get ws 3 ≡ Some schedule) × (slice_get ws 4 ≡ Some last)
+    × (is_limit last ≡ true) × IsReplay ws name script schedule (value_of last)
 replay_shape [] e = absurd (cc)
 replay_shape (a ∷ []) e = absurd (short (begins (a ∷ []) replay_line) e)
 replay_shape (a ∷ b ∷ []) e = absurd (short (begins (a ∷ b ∷ []) replay_line) e)
@@ -132,12 +133,12 @@ replay_shape (a ∷ b ∷ c ∷ []) e = absurd (short (begins (a ∷ b ∷ c ∷
 replay_shape (a ∷ b ∷ c ∷ d ∷ []) e = absurd (short (begins (a ∷ b ∷ c ∷ d ∷ []) replay_line) e)
 replay_shape (a ∷ b ∷ c ∷ d ∷ l ∷ []) e =
     let h = both (begins (a ∷ b ∷ c ∷ d ∷ l ∷ []) replay_line) true e in
-    let h1 = both (bytes_eq (codes "replay") a) (begins (b ∷ c ∷ d ∷ l ∷ []) (is_name ∷ is_hyphen ∷ is_name ∷ is_limit ∷ [])) h.0 in
-    let h2 = both (is_name b) (begins (c ∷ d ∷ l ∷ []) (is_hyphen ∷ is_name ∷ is_limit ∷ [])) h1.1 in
-    let h3 = both (is_hyphen c) (begins (d ∷ l ∷ []) (is_name ∷ is_limit ∷ [])) h2.1 in
+    let h1 = both (bytes_eq (codes "replay") a) (begins (b ∷ c ∷ d ∷ l ∷ []) (is_name ∷ is_name ∷ is_name ∷ is_limit ∷ [])) h.0 in
+    let h2 = both (is_name b) (begins (c ∷ d ∷ l ∷ []) (is_name ∷ is_name ∷ is_limit ∷ [])) h1.1 in
+    let h3 = both (is_name c) (begins (d ∷ l ∷ []) (is_name ∷ is_limit ∷ [])) h2.1 in
     let h4 = both (is_name d) (begins (l ∷ []) (is_limit ∷ [])) h3.1 in
     let h5 = both (is_limit l) true h4.1 in
-    (b, d, l, refl, refl, refl, h5.0, (e, refl, refl, refl))
+    (b, c, d, l, refl, refl, refl, refl, h5.0, (e, refl, refl, refl, refl))
 replay_shape (a ∷ b ∷ c ∷ d ∷ l ∷ x ∷ ws) e =
     let long : suc (suc (suc (suc (suc (suc (length ws)))))) ≡ 5 = eqb-true (suc (suc (suc (suc (suc (suc (length ws))))))) 5 (both (begins (a ∷ b ∷ c ∷ d ∷ l ∷ x ∷ ws) replay_line) (suc (suc (suc (suc (suc (suc (length ws)))))) == 5) e).1 in
     absurd (omega arith)
@@ -239,21 +240,21 @@ bad_replay ws n first fit not =
 
 pub bad_path : (ws : List (List ℕ)) (n : ℕ) → has_word ws 0 (bytes_eq (codes "path")) ≡ true → AreFit ws path_line n → is_line ws path_line ≡ false → AreBadAt ws n
 bad_path ws n first fit not =
-    let replay = starts_other ws (codes "path") (codes "replay") (is_name ∷ is_hyphen ∷ is_name ∷ is_limit ∷ []) first refl in
+    let replay = starts_other ws (codes "path") (codes "replay") (is_name ∷ is_name ∷ is_name ∷ is_limit ∷ []) first refl in
     let help = starts_other ws (codes "path") (codes "--help") [] first refl in
     let version = starts_other ws (codes "path") (codes "--version") [] first refl in
     bad_at ws 0 n 0 0 n replay fit help version (no_line_at_0 ws _ _ replay) not (no_line_at_0 ws _ _ help) (no_line_at_0 ws _ _ version) (omega arith) (omega arith) (omega arith) (omega arith) (inr (inl refl))
 
 pub bad_help : (ws : List (List ℕ)) (n : ℕ) → has_word ws 0 (bytes_eq (codes "--help")) ≡ true → AreFit ws help_line n → is_line ws help_line ≡ false → AreBadAt ws n
 bad_help ws n first fit not =
-    let replay = starts_other ws (codes "--help") (codes "replay") (is_name ∷ is_hyphen ∷ is_name ∷ is_limit ∷ []) first refl in
+    let replay = starts_other ws (codes "--help") (codes "replay") (is_name ∷ is_name ∷ is_name ∷ is_limit ∷ []) first refl in
     let path = starts_other ws (codes "--help") (codes "path") (is_name ∷ is_step ∷ []) first refl in
     let version = starts_other ws (codes "--help") (codes "--version") [] first refl in
     bad_at ws 0 0 n 0 n replay path fit version (no_line_at_0 ws _ _ replay) (no_line_at_0 ws _ _ path) not (no_line_at_0 ws _ _ version) (omega arith) (omega arith) (omega arith) (omega arith) (inr (inr (inl refl)))
 
 pub bad_version : (ws : List (List ℕ)) (n : ℕ) → has_word ws 0 (bytes_eq (codes "--version")) ≡ true → AreFit ws version_line n → is_line ws version_line ≡ false → AreBadAt ws n
 bad_version ws n first fit not =
-    let replay = starts_other ws (codes "--version") (codes "replay") (is_name ∷ is_hyphen ∷ is_name ∷ is_limit ∷ []) first refl in
+    let replay = starts_other ws (codes "--version") (codes "replay") (is_name ∷ is_name ∷ is_name ∷ is_limit ∷ []) first refl in
     let path = starts_other ws (codes "--version") (codes "path") (is_name ∷ is_step ∷ []) first refl in
     let help = starts_other ws (codes "--version") (codes "--help") [] first refl in
     bad_at ws 0 0 0 n n replay path help fit (no_line_at_0 ws _ _ replay) (no_line_at_0 ws _ _ path) (no_line_at_0 ws _ _ help) not (omega arith) (omega arith) (omega arith) (omega arith) (inr (inr (inr refl)))
@@ -265,7 +266,7 @@ no_first ws form forms not = fit_before ws (form ∷ forms) 0 form refl not (beg
 pub bad_first : (ws : List (List ℕ)) → has_word ws 0 (bytes_eq (codes "replay")) ≡ false → has_word ws 0 (bytes_eq (codes "path")) ≡ false → has_word ws 0 (bytes_eq (codes "--help")) ≡ false
     → has_word ws 0 (bytes_eq (codes "--version")) ≡ false → AreBadAt ws 0
 bad_first ws r p h v =
-    let replay = no_first ws (bytes_eq (codes "replay")) (is_name ∷ is_hyphen ∷ is_name ∷ is_limit ∷ []) r in
+    let replay = no_first ws (bytes_eq (codes "replay")) (is_name ∷ is_name ∷ is_name ∷ is_limit ∷ []) r in
     let path = no_first ws (bytes_eq (codes "path")) (is_name ∷ is_step ∷ []) p in
     let help = no_first ws (bytes_eq (codes "--help")) [] h in
     let version = no_first ws (bytes_eq (codes "--version")) [] v in
@@ -290,8 +291,8 @@ replay_1 ws first = let h = word_of ws 0 (bytes_eq (codes "replay")) first in be
 pub replay_2 : (ws : List (List ℕ)) (name : List ℕ) → HasWord ws 1 is_name name → AreBegun ws replay_line 1 → AreBegun ws replay_line 2
 replay_2 ws name has begun = begun_more ws replay_line 1 is_name name refl has begun
 
-pub replay_3 : (ws : List (List ℕ)) → has_word ws 2 (bytes_eq (codes "-")) ≡ true → AreBegun ws replay_line 2 → AreBegun ws replay_line 3
-replay_3 ws hyphen begun = let h = word_of ws 2 (bytes_eq (codes "-")) hyphen in begun_more ws replay_line 2 (bytes_eq (codes "-")) h.0 refl h.1 begun
+pub replay_3 : (ws : List (List ℕ)) (script : List ℕ) → HasWord ws 2 is_name script → AreBegun ws replay_line 2 → AreBegun ws replay_line 3
+replay_3 ws script has begun = begun_more ws replay_line 2 is_name script refl has begun
 
 pub replay_4 : (ws : List (List ℕ)) (schedule : List ℕ) → HasWord ws 3 is_name schedule → AreBegun ws replay_line 3 → AreBegun ws replay_line 4
 replay_4 ws schedule has begun = begun_more ws replay_line 3 is_name schedule refl has begun
@@ -318,31 +319,33 @@ same_word : (a b : List ℕ) → some_word a ≡ some_word b → a ≡ b
 same_word a b e = cc
 
 -- whole words of a replay and of a path, with what was read of them
-pub is_replay : (ws : List (List ℕ)) (name schedule last : List ℕ) (limit : ℕ) → AreBegun ws replay_line 5 → length ws ≤ 5 → HasWord ws 1 is_name name → HasWord ws 3 is_name schedule → HasWord ws 4 is_limit last
-    → limit ≡ value_of last → IsReplay ws name schedule limit
-is_replay ws name schedule last limit begun short at_1 at_3 at_4 value =
+pub is_replay : (ws : List (List ℕ)) (name script schedule last : List ℕ) (limit : ℕ) → AreBegun ws replay_line 5 → length ws ≤ 5 → HasWord ws 1 is_name name → HasWord ws 2 is_name script → HasWord ws 3 is_name schedule
+    → HasWord ws 4 is_limit last → limit ≡ value_of last → IsReplay ws name script schedule limit
+is_replay ws name script schedule last limit begun short at_1 at_2 at_3 at_4 value =
     let shape = replay_shape ws (begun_line ws replay_line 5 begun short refl) in
-    let e_name : shape.0 ≡ name = same_word shape.0 name (sym shape.3 ∙ at_1.0) in
-    let e_schedule : shape.1 ≡ schedule = same_word shape.1 schedule (sym shape.4 ∙ at_3.0) in
-    let e_last : shape.2 ≡ last = same_word shape.2 last (sym shape.5 ∙ at_4.0) in
-    let e_limit : value_of shape.2 ≡ limit = ap value_of e_last ∙ sym value in
-    subst (λ (n : List ℕ). IsReplay ws n schedule limit) e_name
-    (subst (λ (w : List ℕ). IsReplay ws shape.0 w limit) e_schedule (subst (λ (v : ℕ). IsReplay ws shape.0 shape.1 v) e_limit shape.7))
+    let e_name : shape.0 ≡ name = same_word shape.0 name (sym shape.4 ∙ at_1.0) in
+    let e_script : shape.1 ≡ script = same_word shape.1 script (sym shape.5 ∙ at_2.0) in
+    let e_schedule : shape.2 ≡ schedule = same_word shape.2 schedule (sym shape.6 ∙ at_3.0) in
+    let e_last : shape.3 ≡ last = same_word shape.3 last (sym shape.7 ∙ at_4.0) in
+    let e_limit : value_of shape.3 ≡ limit = ap value_of e_last ∙ sym value in
+    subst (λ (n : List ℕ). IsReplay ws n script schedule limit) e_name
+    (subst (λ (w : List ℕ). IsReplay ws shape.0 w schedule limit) e_script
+    (subst (λ (w : List ℕ). IsReplay ws shape.0 shape.1 w limit) e_schedule (subst (λ (v : ℕ). IsReplay ws shape.0 shape.1 shape.2 v) e_limit shape.9)))
 
 -- the limit of a replay is in its range
-pub limit_within : (ws : List (List ℕ)) (name schedule : List ℕ) (limit : ℕ) → IsReplay ws name schedule limit → (1 ≤ limit) × (limit ≤ MAX_ENTRIES)
-limit_within [] name schedule limit is = absurd is
-limit_within (a ∷ []) name schedule limit is = absurd is
-limit_within (a ∷ b ∷ []) name schedule limit is = absurd is
-limit_within (a ∷ b ∷ c ∷ []) name schedule limit is = absurd is
-limit_within (a ∷ b ∷ c ∷ d ∷ []) name schedule limit is = absurd is
-limit_within (a ∷ b ∷ c ∷ d ∷ l ∷ []) name schedule limit is =
+pub limit_within : (ws : List (List ℕ)) (name script schedule : List ℕ) (limit : ℕ) → IsReplay ws name script schedule limit → (1 ≤ limit) × (limit ≤ MAX_ENTRIES)
+limit_within [] name script schedule limit is = absurd is
+limit_within (a ∷ []) name script schedule limit is = absurd is
+limit_within (a ∷ b ∷ []) name script schedule limit is = absurd is
+limit_within (a ∷ b ∷ c ∷ []) name script schedule limit is = absurd is
+limit_within (a ∷ b ∷ c ∷ d ∷ []) name script schedule limit is = absurd is
+limit_within (a ∷ b ∷ c ∷ d ∷ l ∷ []) name script schedule limit is =
     let shape = replay_shape (a ∷ b ∷ c ∷ d ∷ l ∷ []) is.0 in
-    let h : is_limit l ≡ true = subst (λ (w : List ℕ). is_limit w ≡ true) (same_word shape.2 l (sym shape.5)) shape.6 in
+    let h : is_limit l ≡ true = subst (λ (w : List ℕ). is_limit w ≡ true) (same_word shape.3 l (sym shape.7)) shape.8 in
     let most = both (is_number LIMIT_DIGITS l && nat_le 1 (value_of l)) (nat_le (value_of l) MAX_ENTRIES) h in
     let least = both (is_number LIMIT_DIGITS l) (nat_le 1 (value_of l)) most.0 in
-    subst (λ (n : ℕ). (1 ≤ n) × (n ≤ MAX_ENTRIES)) is.3 (leb-true 1 (value_of l) least.1, leb-true (value_of l) MAX_ENTRIES most.1)
-limit_within (a ∷ b ∷ c ∷ d ∷ l ∷ x ∷ ws) name schedule limit is = absurd is
+    subst (λ (n : ℕ). (1 ≤ n) × (n ≤ MAX_ENTRIES)) is.4 (leb-true 1 (value_of l) least.1, leb-true (value_of l) MAX_ENTRIES most.1)
+limit_within (a ∷ b ∷ c ∷ d ∷ l ∷ x ∷ ws) name script schedule limit is = absurd is
 
 pub is_path : (ws : List (List ℕ)) (name last : List ℕ) (n : ℕ) → AreBegun ws path_line 3 → length ws ≤ 3 → HasWord ws 1 is_name name → HasWord ws 2 is_step last → n ≡ value_of last → IsPath ws name n
 is_path ws name last n begun short at_1 at_2 value =
@@ -353,31 +356,31 @@ is_path ws name last n begun short at_1 at_2 value =
     subst (λ (m : List ℕ). IsPath ws m n) e_name (subst (λ (v : ℕ). IsPath ws shape.0 v) e_n shape.6)
 
 -- words of a replay that go on otherwise at some place
-pub replay_stops_2 : (ws : List (List ℕ)) (name : List ℕ) (bad : ℕ) → has_word ws 0 (bytes_eq (codes "replay")) ≡ true → HasWord ws 1 is_name name → (bad ≡ 2) × (has_word ws 2 (bytes_eq (codes "-")) ≡ false)
+pub replay_stops_2 : (ws : List (List ℕ)) (name : List ℕ) (bad : ℕ) → has_word ws 0 (bytes_eq (codes "replay")) ≡ true → HasWord ws 1 is_name name → (bad ≡ 2) × (has_word ws 2 is_name ≡ false)
     → AreBadAt ws bad
 replay_stops_2 ws name bad first at_1 stop =
     let five : length replay_line ≡ 5 = refl in
-    let s = stops_before ws replay_line 2 (bytes_eq (codes "-")) refl (omega arith) stop.1 (replay_2 ws name at_1 (replay_1 ws first)) in
+    let s = stops_before ws replay_line 2 is_name refl (omega arith) stop.1 (replay_2 ws name at_1 (replay_1 ws first)) in
     subst (λ (n : ℕ). AreBadAt ws n) (sym stop.0) (bad_replay ws 2 first s.0 s.1)
 
-pub replay_stops_3 : (ws : List (List ℕ)) (name : List ℕ) (bad : ℕ) → has_word ws 0 (bytes_eq (codes "replay")) ≡ true → HasWord ws 1 is_name name → has_word ws 2 (bytes_eq (codes "-")) ≡ true
+pub replay_stops_3 : (ws : List (List ℕ)) (name script : List ℕ) (bad : ℕ) → has_word ws 0 (bytes_eq (codes "replay")) ≡ true → HasWord ws 1 is_name name → HasWord ws 2 is_name script
     → (bad ≡ 3) × (has_word ws 3 is_name ≡ false) → AreBadAt ws bad
-replay_stops_3 ws name bad first at_1 at_2 stop =
+replay_stops_3 ws name script bad first at_1 at_2 stop =
     let five : length replay_line ≡ 5 = refl in
-    let s = stops_before ws replay_line 3 is_name refl (omega arith) stop.1 (replay_3 ws at_2 (replay_2 ws name at_1 (replay_1 ws first))) in
+    let s = stops_before ws replay_line 3 is_name refl (omega arith) stop.1 (replay_3 ws script at_2 (replay_2 ws name at_1 (replay_1 ws first))) in
     subst (λ (n : ℕ). AreBadAt ws n) (sym stop.0) (bad_replay ws 3 first s.0 s.1)
 
-pub replay_stops_4 : (ws : List (List ℕ)) (name schedule : List ℕ) (bad : ℕ) → has_word ws 0 (bytes_eq (codes "replay")) ≡ true → HasWord ws 1 is_name name → has_word ws 2 (bytes_eq (codes "-")) ≡ true
+pub replay_stops_4 : (ws : List (List ℕ)) (name script schedule : List ℕ) (bad : ℕ) → has_word ws 0 (bytes_eq (codes "replay")) ≡ true → HasWord ws 1 is_name name → HasWord ws 2 is_name script
     → HasWord ws 3 is_name schedule → (bad ≡ 4) × (has_word ws 4 is_limit ≡ false) → AreBadAt ws bad
-replay_stops_4 ws name schedule bad first at_1 at_2 at_3 stop =
+replay_stops_4 ws name script schedule bad first at_1 at_2 at_3 stop =
     let five : length replay_line ≡ 5 = refl in
-    let s = stops_before ws replay_line 4 is_limit refl (omega arith) stop.1 (replay_4 ws schedule at_3 (replay_3 ws at_2 (replay_2 ws name at_1 (replay_1 ws first)))) in
+    let s = stops_before ws replay_line 4 is_limit refl (omega arith) stop.1 (replay_4 ws schedule at_3 (replay_3 ws script at_2 (replay_2 ws name at_1 (replay_1 ws first)))) in
     subst (λ (n : ℕ). AreBadAt ws n) (sym stop.0) (bad_replay ws 4 first s.0 s.1)
 
-pub replay_stops_5 : (ws : List (List ℕ)) (name schedule last : List ℕ) (bad : ℕ) → has_word ws 0 (bytes_eq (codes "replay")) ≡ true → HasWord ws 1 is_name name → has_word ws 2 (bytes_eq (codes "-")) ≡ true
+pub replay_stops_5 : (ws : List (List ℕ)) (name script schedule last : List ℕ) (bad : ℕ) → has_word ws 0 (bytes_eq (codes "replay")) ≡ true → HasWord ws 1 is_name name → HasWord ws 2 is_name script
     → HasWord ws 3 is_name schedule → HasWord ws 4 is_limit last → (bad ≡ 5) × (5 < length ws) → AreBadAt ws bad
-replay_stops_5 ws name schedule last bad first at_1 at_2 at_3 at_4 stop =
-    let s = stops_behind ws replay_line 5 refl stop.1 (replay_5 ws last at_4 (replay_4 ws schedule at_3 (replay_3 ws at_2 (replay_2 ws name at_1 (replay_1 ws first))))) in
+replay_stops_5 ws name script schedule last bad first at_1 at_2 at_3 at_4 stop =
+    let s = stops_behind ws replay_line 5 refl stop.1 (replay_5 ws last at_4 (replay_4 ws schedule at_3 (replay_3 ws script at_2 (replay_2 ws name at_1 (replay_1 ws first))))) in
     subst (λ (n : ℕ). AreBadAt ws n) (sym stop.0) (bad_replay ws 5 first s.0 s.1)
 
 -- words of a path that go on otherwise at some place

@@ -5,19 +5,19 @@ use Rattle.std.specs.Str.{bytes_eq}
 use Rattle.std.proofs.lemmas.Bool.{eqb-true}
 use Rattle.std.proofs.lemmas.Slice.Eq.{bytes_eq-Decides}
 use Rattle.controller.specs.Numerals.{value_of}
-use Rattle.controller.specs.Words.{Form, begins, is_line, is_some_line, begins_some, AreBadAt, is_name, is_hyphen, is_limit, is_step, replay_line, path_line, help_line, version_line, IsReplay, IsPath}
+use Rattle.controller.specs.Words.{Form, begins, is_line, is_some_line, begins_some, AreBadAt, is_name, is_limit, is_step, replay_line, path_line, help_line, version_line, IsReplay, IsPath}
 use Rattle.controller.specs.Meaning.{Meaning, Replay, Path, Help, Version, Bad, Mean}
 use Rattle.controller.proofs.CommandLemmas.{both, tested, no_test, some_of, none_of, one_of, begins_fewer, replay_shape, path_shape}
 
 -- a line and what its words give
-replay_is_line : (ws : List (List ℕ)) (name schedule : List ℕ) (limit : ℕ) → IsReplay ws name schedule limit → is_line ws replay_line ≡ true
-replay_is_line [] name schedule limit h = absurd h
-replay_is_line (a ∷ []) name schedule limit h = absurd h
-replay_is_line (a ∷ b ∷ []) name schedule limit h = absurd h
-replay_is_line (a ∷ b ∷ c ∷ []) name schedule limit h = absurd h
-replay_is_line (a ∷ b ∷ c ∷ d ∷ []) name schedule limit h = absurd h
-replay_is_line (a ∷ b ∷ c ∷ d ∷ l ∷ []) name schedule limit h = h.0
-replay_is_line (a ∷ b ∷ c ∷ d ∷ l ∷ x ∷ ws) name schedule limit h = absurd h
+replay_is_line : (ws : List (List ℕ)) (name script schedule : List ℕ) (limit : ℕ) → IsReplay ws name script schedule limit → is_line ws replay_line ≡ true
+replay_is_line [] name script schedule limit h = absurd h
+replay_is_line (a ∷ []) name script schedule limit h = absurd h
+replay_is_line (a ∷ b ∷ []) name script schedule limit h = absurd h
+replay_is_line (a ∷ b ∷ c ∷ []) name script schedule limit h = absurd h
+replay_is_line (a ∷ b ∷ c ∷ d ∷ []) name script schedule limit h = absurd h
+replay_is_line (a ∷ b ∷ c ∷ d ∷ l ∷ []) name script schedule limit h = h.0
+replay_is_line (a ∷ b ∷ c ∷ d ∷ l ∷ x ∷ ws) name script schedule limit h = absurd h
 
 path_is_line : (ws : List (List ℕ)) (name : List ℕ) (n : ℕ) → IsPath ws name n → is_line ws path_line ≡ true
 path_is_line [] name n h = absurd h
@@ -26,18 +26,21 @@ path_is_line (a ∷ b ∷ []) name n h = absurd h
 path_is_line (a ∷ b ∷ c ∷ []) name n h = h.0
 path_is_line (a ∷ b ∷ c ∷ x ∷ ws) name n h = absurd h
 
-same_replay : (ws : List (List ℕ)) (name name2 schedule schedule2 : List ℕ) (limit limit2 : ℕ) → IsReplay ws name schedule limit → IsReplay ws name2 schedule2 limit2 → Replay name schedule limit ≡ Replay name2 schedule2 limit2
-same_replay [] name name2 schedule schedule2 limit limit2 h k = absurd h
-same_replay (a ∷ []) name name2 schedule schedule2 limit limit2 h k = absurd h
-same_replay (a ∷ b ∷ []) name name2 schedule schedule2 limit limit2 h k = absurd h
-same_replay (a ∷ b ∷ c ∷ []) name name2 schedule schedule2 limit limit2 h k = absurd h
-same_replay (a ∷ b ∷ c ∷ d ∷ []) name name2 schedule schedule2 limit limit2 h k = absurd h
-same_replay (a ∷ b ∷ c ∷ d ∷ l ∷ []) name name2 schedule schedule2 limit limit2 h k =
+same_replay : (ws : List (List ℕ)) (name name2 script script2 schedule schedule2 : List ℕ) (limit limit2 : ℕ) → IsReplay ws name script schedule limit → IsReplay ws name2 script2 schedule2 limit2
+    → Replay name script schedule limit ≡ Replay name2 script2 schedule2 limit2
+same_replay [] name name2 script script2 schedule schedule2 limit limit2 h k = absurd h
+same_replay (a ∷ []) name name2 script script2 schedule schedule2 limit limit2 h k = absurd h
+same_replay (a ∷ b ∷ []) name name2 script script2 schedule schedule2 limit limit2 h k = absurd h
+same_replay (a ∷ b ∷ c ∷ []) name name2 script script2 schedule schedule2 limit limit2 h k = absurd h
+same_replay (a ∷ b ∷ c ∷ d ∷ []) name name2 script script2 schedule schedule2 limit limit2 h k = absurd h
+same_replay (a ∷ b ∷ c ∷ d ∷ l ∷ []) name name2 script script2 schedule schedule2 limit limit2 h k =
     let names : name ≡ name2 = sym h.1 ∙ k.1 in
-    let schedules : schedule ≡ schedule2 = sym h.2 ∙ k.2 in
-    let limits : limit ≡ limit2 = sym h.3 ∙ k.3 in
-    ap (λ (m : List ℕ). Replay m schedule limit) names ∙ ap (λ (w : List ℕ). Replay name2 w limit) schedules ∙ ap (Replay name2 schedule2) limits
-same_replay (a ∷ b ∷ c ∷ d ∷ l ∷ x ∷ ws) name name2 schedule schedule2 limit limit2 h k = absurd h
+    let scripts : script ≡ script2 = sym h.2 ∙ k.2 in
+    let schedules : schedule ≡ schedule2 = sym h.3 ∙ k.3 in
+    let limits : limit ≡ limit2 = sym h.4 ∙ k.4 in
+    ap (λ (m : List ℕ). Replay m script schedule limit) names ∙ ap (λ (w : List ℕ). Replay name2 w schedule limit) scripts
+    ∙ ap (λ (w : List ℕ). Replay name2 script2 w limit) schedules ∙ ap (Replay name2 script2 schedule2) limits
+same_replay (a ∷ b ∷ c ∷ d ∷ l ∷ x ∷ ws) name name2 script script2 schedule schedule2 limit limit2 h k = absurd h
 
 same_path : (ws : List (List ℕ)) (name name2 : List ℕ) (n n2 : ℕ) → IsPath ws name n → IsPath ws name2 n2 → Path name n ≡ Path name2 n2
 same_path [] name name2 n n2 h k = absurd h
@@ -74,7 +77,7 @@ one_line ws a b forms others apart e f =
     no_test (bytes_eq a b) ((bytes_eq-Decides a b).1 words_same) apart
 
 abbrev replay_rest : List Form
-replay_rest = is_name ∷ is_hyphen ∷ is_name ∷ is_limit ∷ []
+replay_rest = is_name ∷ is_name ∷ is_name ∷ is_limit ∷ []
 
 abbrev path_rest : List Form
 path_rest = is_name ∷ is_step ∷ []
@@ -126,27 +129,27 @@ same_place ws i j h k = elim (order i j) [ inl e ↦ e | inr other ↦ elim othe
 
 -- words have one meaning at most
 pub one_meaning : (ws : List (List ℕ)) (a b : Meaning) → Mean ws a → Mean ws b → a ≡ b
-one_meaning ws (Replay name schedule limit) (Replay name2 schedule2 limit2) h k = same_replay ws name name2 schedule schedule2 limit limit2 h k
-one_meaning ws (Replay name schedule limit) (Path name2 n) h k = absurd (replay_or_path ws (replay_is_line ws name schedule limit h) (path_is_line ws name2 n k))
-one_meaning ws (Replay name schedule limit) Help h k = absurd (replay_or_help ws (replay_is_line ws name schedule limit h) k)
-one_meaning ws (Replay name schedule limit) Version h k = absurd (replay_or_version ws (replay_is_line ws name schedule limit h) k)
-one_meaning ws (Replay name schedule limit) (Bad place) h k = absurd (not_bad ws place (inl (replay_is_line ws name schedule limit h)) k)
-one_meaning ws (Path name n) (Replay name2 schedule limit) h k = absurd (replay_or_path ws (replay_is_line ws name2 schedule limit k) (path_is_line ws name n h))
+one_meaning ws (Replay name script schedule limit) (Replay name2 script2 schedule2 limit2) h k = same_replay ws name name2 script script2 schedule schedule2 limit limit2 h k
+one_meaning ws (Replay name script schedule limit) (Path name2 n) h k = absurd (replay_or_path ws (replay_is_line ws name script schedule limit h) (path_is_line ws name2 n k))
+one_meaning ws (Replay name script schedule limit) Help h k = absurd (replay_or_help ws (replay_is_line ws name script schedule limit h) k)
+one_meaning ws (Replay name script schedule limit) Version h k = absurd (replay_or_version ws (replay_is_line ws name script schedule limit h) k)
+one_meaning ws (Replay name script schedule limit) (Bad place) h k = absurd (not_bad ws place (inl (replay_is_line ws name script schedule limit h)) k)
+one_meaning ws (Path name n) (Replay name2 script schedule limit) h k = absurd (replay_or_path ws (replay_is_line ws name2 script schedule limit k) (path_is_line ws name n h))
 one_meaning ws (Path name n) (Path name2 n2) h k = same_path ws name name2 n n2 h k
 one_meaning ws (Path name n) Help h k = absurd (path_or_help ws (path_is_line ws name n h) k)
 one_meaning ws (Path name n) Version h k = absurd (path_or_version ws (path_is_line ws name n h) k)
 one_meaning ws (Path name n) (Bad place) h k = absurd (not_bad ws place (inr (inl (path_is_line ws name n h))) k)
-one_meaning ws Help (Replay name schedule limit) h k = absurd (replay_or_help ws (replay_is_line ws name schedule limit k) h)
+one_meaning ws Help (Replay name script schedule limit) h k = absurd (replay_or_help ws (replay_is_line ws name script schedule limit k) h)
 one_meaning ws Help (Path name n) h k = absurd (path_or_help ws (path_is_line ws name n k) h)
 one_meaning ws Help Help h k = refl
 one_meaning ws Help Version h k = absurd (help_or_version ws h k)
 one_meaning ws Help (Bad place) h k = absurd (not_bad ws place (inr (inr (inl h))) k)
-one_meaning ws Version (Replay name schedule limit) h k = absurd (replay_or_version ws (replay_is_line ws name schedule limit k) h)
+one_meaning ws Version (Replay name script schedule limit) h k = absurd (replay_or_version ws (replay_is_line ws name script schedule limit k) h)
 one_meaning ws Version (Path name n) h k = absurd (path_or_version ws (path_is_line ws name n k) h)
 one_meaning ws Version Help h k = absurd (help_or_version ws k h)
 one_meaning ws Version Version h k = refl
 one_meaning ws Version (Bad place) h k = absurd (not_bad ws place (inr (inr (inr h))) k)
-one_meaning ws (Bad place) (Replay name schedule limit) h k = absurd (not_bad ws place (inl (replay_is_line ws name schedule limit k)) h)
+one_meaning ws (Bad place) (Replay name script schedule limit) h k = absurd (not_bad ws place (inl (replay_is_line ws name script schedule limit k)) h)
 one_meaning ws (Bad place) (Path name n) h k = absurd (not_bad ws place (inr (inl (path_is_line ws name n k))) h)
 one_meaning ws (Bad place) Help h k = absurd (not_bad ws place (inr (inr (inl k))) h)
 one_meaning ws (Bad place) Version h k = absurd (not_bad ws place (inr (inr (inr k))) h)
@@ -162,7 +165,7 @@ find_bad ws (suc i) not le ended = elim (tested (begins_some (take (suc i) ws)))
 -- words have a meaning
 pub some_meaning : (ws : List (List ℕ)) → (m : Meaning) × Mean ws m
 some_meaning ws = elim (tested (is_line ws replay_line)) [
-  | inl t ↦ let shape = replay_shape ws t in (Replay shape.0 shape.1 (value_of shape.2), shape.7)
+  | inl t ↦ let shape = replay_shape ws t in (Replay shape.0 shape.1 shape.2 (value_of shape.3), shape.9)
   | inr no_replay ↦ elim (tested (is_line ws path_line)) [
     | inl t ↦ let shape = path_shape ws t in (Path shape.0 (value_of shape.1), shape.6)
     | inr no_path ↦ elim (tested (is_line ws help_line)) [

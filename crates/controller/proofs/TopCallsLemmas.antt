@@ -31,33 +31,52 @@ refused ws holds name (reasons.Store fault) named is = record { name = name; nam
 refused ws holds name (reasons.Tree fault) named is = record { name = name; named = named; refused = is.0 }
 refused ws holds name (reasons.Definition n fault) named is = record { name = name; named = named; refused = is.0 }
 
-is_log : (ws : List (List ℕ)) (holds : List ℕ → Option (List ℕ)) (name schedule : List ℕ) (limit : ℕ) (t : List Entry) (ending : Ending) → IsReplay ws name schedule limit
-    → Replays holds name schedule limit (answers.Ran t ending) → IsLog ws holds t ending
-is_log ws holds name schedule limit t ending asked is = record {
+is_log : (ws : List (List ℕ)) (holds : List ℕ → Option (List ℕ)) (name script schedule : List ℕ) (limit : ℕ) (t : List Entry) (ending : Ending) → IsReplay ws name script schedule limit
+    → Replays holds name script schedule limit (answers.Ran t ending) → IsLog ws holds t ending
+is_log ws holds name script schedule limit t ending asked is = record {
   name = name;
+  script = script;
   schedule = schedule;
   limit = limit;
   asked = asked;
   project = is.0;
   held = is.1;
-  channels = is.2;
-  scheduled = is.3;
-  run = is.4;
-  replayed_so = is.5;
+  edits = is.2;
+  scripted = is.3;
+  channels = is.4.0;
+  scheduled = is.4.1;
+  run = is.4.2;
+  replayed_so = is.4.3;
 }
 
 -- what comes of a replay of the files that the words name is right for them
-replay_right : (ws : List (List ℕ)) (holds : List ℕ → Option (List ℕ)) (name schedule : List ℕ) (limit : ℕ) (a : Answer) → IsReplay ws name schedule limit → Replays holds name schedule limit a → IsAnswer ws holds a
-replay_right ws holds name schedule limit (answers.BadWords place) asked is = absurd is
-replay_right ws holds name schedule limit answers.Help asked is = absurd is
-replay_right ws holds name schedule limit answers.Version asked is = absurd is
-replay_right ws holds name schedule limit (answers.Refused reason) asked is = (refused ws holds name reason (inl (schedule, limit, asked)) is, refl)
-replay_right ws holds name schedule limit (answers.ScriptRefused reason) asked is =
-    (record { name = name; schedule = schedule; limit = limit; asked = asked; project = is.0; held = is.1; unscheduled = is.2 }, refl)
-replay_right ws holds name schedule limit (answers.Ran t endings.Done) asked is = (t, is_log ws holds name schedule limit t endings.Done asked is, refl)
-replay_right ws holds name schedule limit (answers.Ran t endings.Blocked) asked is = (t, is_log ws holds name schedule limit t endings.Blocked asked is, refl)
-replay_right ws holds name schedule limit (answers.Ran t endings.Limit) asked is = (t, is_log ws holds name schedule limit t endings.Limit asked is, refl)
-replay_right ws holds name schedule limit (answers.Shown d) asked is = absurd is
+replay_right : (ws : List (List ℕ)) (holds : List ℕ → Option (List ℕ)) (name script schedule : List ℕ) (limit : ℕ) (a : Answer) → IsReplay ws name script schedule limit → Replays holds name script schedule limit a
+    → IsAnswer ws holds a
+replay_right ws holds name script schedule limit (answers.BadWords place) asked is = absurd is
+replay_right ws holds name script schedule limit answers.Help asked is = absurd is
+replay_right ws holds name script schedule limit answers.Version asked is = absurd is
+replay_right ws holds name script schedule limit (answers.Refused reason) asked is = (refused ws holds name reason (inl (script, schedule, limit, asked)) is, refl)
+replay_right ws holds name script schedule limit (answers.ScriptRefused reason) asked (p, held, inl is) =
+    (inl (record { name = name; script = script; schedule = schedule; limit = limit; asked = asked; project = p; held = held; unscripted = is }), refl)
+replay_right ws holds name script schedule limit (answers.ScriptRefused reason) asked (p, held, inr is) = (
+  inr (record {
+    name = name;
+    script = script;
+    schedule = schedule;
+    limit = limit;
+    asked = asked;
+    project = p;
+    held = held;
+    edits = is.0;
+    scripted = is.1;
+    unscheduled = is.2;
+  }),
+  refl,
+)
+replay_right ws holds name script schedule limit (answers.Ran t endings.Done) asked is = (t, is_log ws holds name script schedule limit t endings.Done asked is, refl)
+replay_right ws holds name script schedule limit (answers.Ran t endings.Blocked) asked is = (t, is_log ws holds name script schedule limit t endings.Blocked asked is, refl)
+replay_right ws holds name script schedule limit (answers.Ran t endings.Limit) asked is = (t, is_log ws holds name script schedule limit t endings.Limit asked is, refl)
+replay_right ws holds name script schedule limit (answers.Shown d) asked is = absurd is
 
 not_shown : (ws : List (List ℕ)) (holds : List ℕ → Option (List ℕ)) (name : List ℕ) (n : ℕ) (reason : ProjectReason) → IsPath ws name n → Shows (holds name) n (answers.Refused reason) → IsRefused ws holds reason
 not_shown ws holds name n (reasons.NoStep m) asked is = record {
@@ -97,12 +116,13 @@ answered ws before after a (statuses.ScriptRefused reason) is put = (answer_text
 answered ws before after a (statuses.ProjectRefused reason) is put = (answer_text a, subst (λ (s : Status). IsRight ws before.holds s (answer_text a)) put.0 is, put.1)
 
 -- what comes of a replay of the named files, or why nothing does, answers the words
-pub replay_answers : (ws : List (List ℕ)) (holds : List ℕ → Option (List ℕ)) (before now : List ℕ → ℕ) (name schedule : List ℕ) (limit : ℕ) (r : Result Answer Stop) → IsReplay ws name schedule limit
-    → OrReplayStops name schedule before now (Replays holds name schedule limit) r → AnswersOrStops ws holds before now r
-replay_answers ws holds before now name schedule limit (Ok a) asked is = replay_right ws holds name schedule limit a asked is
-replay_answers ws holds before now name schedule limit (Err stops.ReadFault) asked (inl is) = (name, inl (inl (schedule, limit, asked)), is)
-replay_answers ws holds before now name schedule limit (Err stops.ReadFault) asked (inr is) = (schedule, inr (name, limit, asked, is.0), is.1)
-replay_answers ws holds before now name schedule limit (Err stops.NoMemory) asked is = tt
+pub replay_answers : (ws : List (List ℕ)) (holds : List ℕ → Option (List ℕ)) (before now : List ℕ → ℕ) (name script schedule : List ℕ) (limit : ℕ) (r : Result Answer Stop) → IsReplay ws name script schedule limit
+    → OrReplayStops name script schedule before now (Replays holds name script schedule limit) r → AnswersOrStops ws holds before now r
+replay_answers ws holds before now name script schedule limit (Ok a) asked is = replay_right ws holds name script schedule limit a asked is
+replay_answers ws holds before now name script schedule limit (Err stops.ReadFault) asked (inl is) = (name, inl (inl (script, schedule, limit, asked)), is)
+replay_answers ws holds before now name script schedule limit (Err stops.ReadFault) asked (inr (inl is)) = (script, inr (inl (name, schedule, limit, asked, is.0)), is.1)
+replay_answers ws holds before now name script schedule limit (Err stops.ReadFault) asked (inr (inr is)) = (schedule, inr (inr (name, script, limit, asked, is.0)), is.1)
+replay_answers ws holds before now name script schedule limit (Err stops.NoMemory) asked is = tt
 
 pub path_answers : (ws : List (List ℕ)) (holds : List ℕ → Option (List ℕ)) (before now : List ℕ → ℕ) (name : List ℕ) (n : ℕ) (r : Result Answer Stop) → IsPath ws name n
     → OrStops (before name) (now name) (Shows (holds name) n) r → AnswersOrStops ws holds before now r

@@ -1,5 +1,5 @@
 -- What the words ask for, and the status and the text that are right for it.
-use Rattle.std.specs.Prelude.{◌≡◌, ◌⊎◌, ℕ, true, false, List, [], Option, Ok, IfSome}
+use Rattle.std.specs.Prelude.{◌≡◌, ◌⊎◌, ℕ, true, false, List, Option, Ok, IfSome}
 use Rattle.path_blocks.specs.declared.def.Def.{Def}
 use Rattle.path_blocks.specs.Path.{path_of}
 use Rattle.project_store.specs.Entities.{entity_at}
@@ -23,6 +23,8 @@ use Rattle.controller.specs.Words.{help_line, version_line, is_line, IsReplay, I
 use Rattle.controller.specs.Texts.{bad_words_line, help_text, version_text}
 use Rattle.controller.specs.Refusal.{refusal_line, script_line}
 use Rattle.controller.specs.declared.status.ScriptReason.{ScriptReason}
+use Rattle.entity_types.specs.declared.edit.Edit.{Edit}
+use Rattle.controller.specs.ScriptText.{IsScripted, IsUnscripted}
 use Rattle.controller.specs.ScheduleText.{IsScheduled, IsUnscheduled}
 
 -- the file of this name holds the project, where it is told what it holds
@@ -34,23 +36,26 @@ pub record IsStep (p : Project) (n : ℕ) (d : Def) : Type 0 where
   pub among : is_among p.steps n ≡ true
   pub defined : def_of (entity_at p.entities) n ≡ Ok d
 
--- the project's run under a schedule of these channels
-abbrev pub replayed : Project → List ℕ → ℕ → List Entry
-replayed p channels limit = replay (rules_of p.entities []) (channel_numbers p.entities) channels limit
+-- the run of the project and a script of these edits under a schedule of these channels
+abbrev pub replayed : Project → List Edit → List ℕ → ℕ → List Entry
+replayed p edits channels limit = replay (rules_of p.entities edits) (channel_numbers p.entities) channels limit
 
--- The words ask for a replay, and t is the log of the run of the project in the file that they name, under the schedule that they name and up to the
--- limit that they name. It is a legal run, and it has this ending.
+-- The words ask for a replay, and t is the log of the run of the project in the file that they name and of the script that they name, under the
+-- schedule that they name and up to the limit that they name. It is a legal run of the project and the script, and it has this ending.
 pub record IsLog (words : List (List ℕ)) (holds : List ℕ → Option (List ℕ)) (t : List Entry) (ending : Ending) : Type 0 where
   pub name : List ℕ
+  pub script : List ℕ
   pub schedule : List ℕ
   pub limit : ℕ
-  pub asked : IsReplay words name schedule limit
+  pub asked : IsReplay words name script schedule limit
   pub project : Project
   pub held : HoldsProject holds name project
+  pub edits : List Edit
+  pub scripted : IsScripted holds script edits
   pub channels : List ℕ
   pub scheduled : IsScheduled holds schedule channels
-  pub run : IsRun project.entities [] limit t ending
-  pub replayed_so : t ≡ replayed project channels limit
+  pub run : IsRun project.entities edits limit t ending
+  pub replayed_so : t ≡ replayed project edits channels limit
 
 -- the words ask for the path of a workingstep of the project in the file that they name, and this is its definition
 pub record IsDefinition (words : List (List ℕ)) (holds : List ℕ → Option (List ℕ)) (d : Def) : Type 0 where
@@ -73,14 +78,28 @@ pub record HasNoStep (words : List (List ℕ)) (holds : List ℕ → Option (Lis
   pub asked : IsPath words name n
   pub absent : IfSome (holds name) (λ bytes. (p : Project) × Holds bytes p × (is_among p.steps n ≡ false))
 
--- the words ask for a replay, the file that they name holds a project, and the schedule that they name is none, for this reason
-pub record HasNoSchedule (words : List (List ℕ)) (holds : List ℕ → Option (List ℕ)) (reason : ScriptReason) : Type 0 where
+-- the words ask for a replay, the file that they name holds a project, and the script that they name is none, for this reason
+pub record HasNoScript (words : List (List ℕ)) (holds : List ℕ → Option (List ℕ)) (reason : ScriptReason) : Type 0 where
   pub name : List ℕ
+  pub script : List ℕ
   pub schedule : List ℕ
   pub limit : ℕ
-  pub asked : IsReplay words name schedule limit
+  pub asked : IsReplay words name script schedule limit
   pub project : Project
   pub held : HoldsProject holds name project
+  pub unscripted : IsUnscripted holds script reason
+
+-- the words ask for a replay, the files that they name hold a project and a script, and the schedule that they name is none, for this reason
+pub record HasNoSchedule (words : List (List ℕ)) (holds : List ℕ → Option (List ℕ)) (reason : ScriptReason) : Type 0 where
+  pub name : List ℕ
+  pub script : List ℕ
+  pub schedule : List ℕ
+  pub limit : ℕ
+  pub asked : IsReplay words name script schedule limit
+  pub project : Project
+  pub held : HoldsProject holds name project
+  pub edits : List Edit
+  pub scripted : IsScripted holds script edits
   pub unscheduled : IsUnscheduled holds schedule reason
 
 -- why the project that the words name is refused
@@ -102,7 +121,7 @@ IsRight words holds RunLimit text = (t : List Entry) × IsLog words holds t endi
 IsRight words holds Written text = IsWritten words holds text
 IsRight words holds (BadWords place) text = AreBadAt words place × (text ≡ bad_words_line place)
 IsRight words holds (ProjectRefused reason) text = IsRefused words holds reason × (text ≡ refusal_line reason)
-IsRight words holds (ScriptRefused reason) text = HasNoSchedule words holds reason × (text ≡ script_line reason)
+IsRight words holds (ScriptRefused reason) text = (HasNoScript words holds reason ⊎ HasNoSchedule words holds reason) × (text ≡ script_line reason)
 IsRight words holds ReadFault text = ⊥
 IsRight words holds WriteFault text = ⊥
 IsRight words holds NoMemory text = ⊥

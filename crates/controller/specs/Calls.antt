@@ -1,5 +1,5 @@
 -- What the calls beneath the top calls answer.
-use Rattle.std.specs.Prelude.{◌≡◌, ◌⊎◌, ℕ, true, false, List, [], Option, Result, Ok, Err, IfSome}
+use Rattle.std.specs.Prelude.{◌≡◌, ◌⊎◌, ℕ, false, List, Option, Result, Ok, Err, IfSome}
 use Rattle.std.specs.Global.{Vec}
 use Rattle.nc_outside.specs.Outside.{Rose, Appends, AppendsFront}
 use Rattle.entity_types.specs.declared.entity.Entity.{Entity}
@@ -19,6 +19,8 @@ use Rattle.controller.specs.declared.unheld.Unheld.TheVariants as unheld
 use Rattle.controller.specs.declared.status.Status.{Status}
 use Rattle.controller.specs.declared.status.Status.TheVariants.{WriteFault}
 use Rattle.controller.specs.Words.{Names, is_hyphen}
+use Rattle.entity_types.specs.declared.edit.Edit.{Edit}
+use Rattle.controller.specs.ScriptText.{IsScripted, IsUnscripted}
 use Rattle.controller.specs.ScheduleText.{IsScheduled, IsUnscheduled}
 use Rattle.controller.specs.Asked.{HoldsProject, IsStep, IsRight, replayed}
 use Rattle.controller.specs.Answer.{answer_status, answer_text}
@@ -48,17 +50,24 @@ ReadsFile held before now (Err (unheld.Refused reason)) = IsRefusedFile held rea
 ReadsFile held before now (Err (unheld.ScriptRefused reason)) = ⊥
 ReadsFile held before now (Err (unheld.Stopped stop)) = IsStopOf before now stop
 
--- why the schedule of this word gave nothing: it names a file, and the count of its faults rose, or memory ran out
-abbrev pub IsScheduleStop : List ℕ → ℕ → ℕ → Stop → Type 0
-IsScheduleStop word before now stops.ReadFault = (is_hyphen word ≡ false) × Rose before now
-IsScheduleStop word before now stops.NoMemory = Unit {0}
+-- why the script or the schedule of this word gave nothing: it names a file, and the count of its faults rose, or memory ran out
+abbrev pub IsWordStop : List ℕ → ℕ → ℕ → Stop → Type 0
+IsWordStop word before now stops.ReadFault = (is_hyphen word ≡ false) × Rose before now
+IsWordStop word before now stops.NoMemory = Unit {0}
+
+-- the edits of the script that a word names, or why it gave none
+abbrev pub ReadsScript : (List ℕ → Option (List ℕ)) → List ℕ → ℕ → ℕ → Result (List Edit) Unheld → Type 0
+ReadsScript holds word before now (Ok edits) = IsScripted holds word edits
+ReadsScript holds word before now (Err (unheld.Refused reason)) = ⊥
+ReadsScript holds word before now (Err (unheld.ScriptRefused reason)) = IsUnscripted holds word reason
+ReadsScript holds word before now (Err (unheld.Stopped stop)) = IsWordStop word before now stop
 
 -- the channels of the schedule that a word names, or why it gave none
 abbrev pub ReadsSchedule : (List ℕ → Option (List ℕ)) → List ℕ → ℕ → ℕ → Result (Vec ℕ) Unheld → Type 0
 ReadsSchedule holds word before now (Ok channels) = IsScheduled holds word channels.items
 ReadsSchedule holds word before now (Err (unheld.Refused reason)) = ⊥
 ReadsSchedule holds word before now (Err (unheld.ScriptRefused reason)) = IsUnscheduled holds word reason
-ReadsSchedule holds word before now (Err (unheld.Stopped stop)) = IsScheduleStop word before now stop
+ReadsSchedule holds word before now (Err (unheld.Stopped stop)) = IsWordStop word before now stop
 
 -- the answer where a file gave nothing
 abbrev pub answer_without : Unheld → Result Answer Stop
@@ -72,19 +81,32 @@ ShowsStep p n (Refused (NoStep m)) = (m ≡ n) × (is_among p.steps n ≡ false)
 ShowsStep p n (Shown d) = IsStep p n d
 ShowsStep p n _ = ⊥
 
--- what comes of a replay of the project in the file of this name, under the schedule that a word names
-abbrev pub Replays : (List ℕ → Option (List ℕ)) → List ℕ → List ℕ → ℕ → Answer → Type 0
-Replays holds name schedule limit (Refused reason) = IsRefusedFile (holds name) reason
-Replays holds name schedule limit (ScriptRefused reason) = (p : Project) × HoldsProject holds name p × IsUnscheduled holds schedule reason
-Replays holds name schedule limit (Ran t ending) =
-    (p : Project) × HoldsProject holds name p × (channels : List ℕ) × IsScheduled holds schedule channels × IsRun p.entities [] limit t ending × (t ≡ replayed p channels limit)
-Replays holds name schedule limit _ = ⊥
+-- what comes of a run of the project and these edits under the schedule that a word names
+abbrev pub Runs : (List ℕ → Option (List ℕ)) → Project → List Edit → List ℕ → ℕ → Answer → Type 0
+Runs holds p edits schedule limit (ScriptRefused reason) = IsUnscheduled holds schedule reason
+Runs holds p edits schedule limit (Ran t ending) = (channels : List ℕ) × IsScheduled holds schedule channels × IsRun p.entities edits limit t ending × (t ≡ replayed p edits channels limit)
+Runs holds p edits schedule limit _ = ⊥
 
--- or why nothing does: one of the two files failed, or memory ran out
-abbrev pub OrReplayStops : List ℕ → List ℕ → (List ℕ → ℕ) → (List ℕ → ℕ) → (Answer → Type 0) → Result Answer Stop → Type 0
-OrReplayStops name schedule before now Is (Ok a) = Is a
-OrReplayStops name schedule before now Is (Err stops.ReadFault) = Rose (before name) (now name) ⊎ ((is_hyphen schedule ≡ false) × Rose (before schedule) (now schedule))
-OrReplayStops name schedule before now Is (Err stops.NoMemory) = Unit {0}
+-- or why nothing does: the schedule's file failed, or memory ran out
+abbrev pub OrRunStops : List ℕ → ℕ → ℕ → (Answer → Type 0) → Result Answer Stop → Type 0
+OrRunStops schedule before now Is (Ok a) = Is a
+OrRunStops schedule before now Is (Err stop) = IsWordStop schedule before now stop
+
+-- what comes of a replay of the project in the file of this name and of the script that a word names, under the schedule that a word names
+abbrev pub Replays : (List ℕ → Option (List ℕ)) → List ℕ → List ℕ → List ℕ → ℕ → Answer → Type 0
+Replays holds name script schedule limit (Refused reason) = IsRefusedFile (holds name) reason
+Replays holds name script schedule limit (ScriptRefused reason) =
+    (p : Project) × HoldsProject holds name p × (IsUnscripted holds script reason ⊎ ((edits : List Edit) × IsScripted holds script edits × IsUnscheduled holds schedule reason))
+Replays holds name script schedule limit (Ran t ending) =
+    (p : Project) × HoldsProject holds name p × (edits : List Edit) × IsScripted holds script edits × Runs holds p edits schedule limit (Ran t ending)
+Replays holds name script schedule limit _ = ⊥
+
+-- or why nothing does: one of the three files failed, or memory ran out
+abbrev pub OrReplayStops : List ℕ → List ℕ → List ℕ → (List ℕ → ℕ) → (List ℕ → ℕ) → (Answer → Type 0) → Result Answer Stop → Type 0
+OrReplayStops name script schedule before now Is (Ok a) = Is a
+OrReplayStops name script schedule before now Is (Err stops.ReadFault) =
+    Rose (before name) (now name) ⊎ (((is_hyphen script ≡ false) × Rose (before script) (now script)) ⊎ ((is_hyphen schedule ≡ false) × Rose (before schedule) (now schedule)))
+OrReplayStops name script schedule before now Is (Err stops.NoMemory) = Unit {0}
 
 -- what comes of the path of workingstep n in a file
 abbrev pub Shows : Option (List ℕ) → ℕ → Answer → Type 0

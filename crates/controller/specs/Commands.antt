@@ -19,7 +19,7 @@ HasWord ws place form w = (slice_get ws place ≡ Some w) × (form w ≡ true)
 
 -- the words ask for the command, or are bad at a place
 abbrev pub Ask : List (List ℕ) → Result Command ℕ → Type 0
-Ask ws (Ok (Replay project schedule limit)) = IsReplay ws project.now schedule.now limit
+Ask ws (Ok (Replay project script schedule limit)) = IsReplay ws project.now script.now schedule.now limit
 Ask ws (Ok (Path project step)) = IsPath ws project.now step
 Ask ws (Ok Help) = is_line ws help_line ≡ true
 Ask ws (Ok Version) = is_line ws version_line ≡ true

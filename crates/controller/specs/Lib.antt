@@ -6,6 +6,7 @@ pub mod Texts
 pub mod Refusal
 pub mod Codes
 pub mod Outside
+pub mod ScriptText
 pub mod ScheduleText
 pub mod Asked
 pub mod Told

@@ -4,7 +4,7 @@ use Rattle.controller.specs.Words.{help_line, version_line, is_line, IsReplay, I
 
 -- a command with what it names, or the place at which words are bad
 pub data Meaning : Type 0 where
-  Replay : List ℕ → List ℕ → ℕ → Meaning
+  Replay : List ℕ → List ℕ → List ℕ → ℕ → Meaning
   Path : List ℕ → ℕ → Meaning
   Help : Meaning
   Version : Meaning
@@ -12,7 +12,7 @@ pub data Meaning : Type 0 where
 
 -- the words mean this
 abbrev pub Mean : List (List ℕ) → Meaning → Type 0
-Mean ws (Replay project schedule limit) = IsReplay ws project schedule limit
+Mean ws (Replay project script schedule limit) = IsReplay ws project script schedule limit
 Mean ws (Path project step) = IsPath ws project step
 Mean ws Help = is_line ws help_line ≡ true
 Mean ws Version = is_line ws version_line ≡ true

@@ -1,4 +1,4 @@
--- The lines of refusals, of a project and of a script, after this profile: the reason's name and its numbers.
+-- The lines of refusals, of a project, of a script and of a schedule, after this profile: the reason's name and its numbers.
 use Rattle.std.specs.Prelude.{ℕ, List, ◌++◌, codes, decimal}
 use Rattle.p21_lex.specs.declared.error.LexErr.{LexErr}
 use Rattle.p21_lex.specs.declared.error.LexErr.TheVariants as lexes
@@ -14,6 +14,8 @@ use Rattle.project_read.specs.declared.reason.ProjectReason.{ProjectReason}
 use Rattle.project_read.specs.declared.reason.ProjectReason.TheVariants.{TooLong, Read, Attribute, Store, Tree, Definition, NoStep}
 use Rattle.exec_tree.specs.declared.error.TreeErr.{TreeErr}
 use Rattle.exec_tree.specs.declared.error.TreeErr.TheVariants as trees
+use Rattle.edit_script.specs.declared.error.ScriptErr.{ScriptErr}
+use Rattle.edit_script.specs.declared.error.ScriptErr.TheVariants as edits
 use Rattle.controller.specs.declared.status.ScriptReason.{ScriptReason}
 use Rattle.controller.specs.declared.status.ScriptReason.TheVariants as script
 use Rattle.controller.specs.Texts.{row}
@@ -86,8 +88,23 @@ reason_text (NoStep n) = one (codes "NoStep") n
 abbrev pub refusal_line : ProjectReason → List ℕ
 refusal_line reason = row (codes "refused " ++ reason_text reason)
 
+-- a name with three numbers behind it
+abbrev pub three : List ℕ → ℕ → ℕ → ℕ → List ℕ
+three name a b c = two name a b ++ (codes " " ++ decimal c)
+
+abbrev pub edits_text : ScriptErr → List ℕ
+edits_text (edits.Lex fault) = lex_text fault
+edits_text (edits.Syntax place) = one (codes "Syntax") place
+edits_text (edits.TooDeep place) = one (codes "TooDeep") place
+edits_text (edits.TooMany place) = one (codes "TooMany") place
+edits_text (edits.AtOrder edit) = one (codes "AtOrder") edit
+edits_text (edits.Repeated edit n) = two (codes "Repeated") edit n
+edits_text (edits.Attribute edit n position) = three (codes "Attribute") edit n position
+edits_text edits.NoMemory = codes "NoMemory"
+
 abbrev pub script_text : ScriptReason → List ℕ
 script_text script.TooLong = codes "TooLong"
+script_text (script.Script fault) = edits_text fault
 script_text (script.Schedule place) = one (codes "Schedule") place
 
 abbrev pub script_line : ScriptReason → List ℕ

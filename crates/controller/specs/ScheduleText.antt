@@ -1,10 +1,9 @@
 -- The schedule that a word of a command names.
-use Rattle.std.specs.Prelude.{◌≡◌, ℕ, ◌<◌, ◌≤◌, Bool, true, false, List, [], length, Option, Some, None, IfSome, codes}
-use Rattle.std.specs.Str.{bytes_eq}
+use Rattle.std.specs.Prelude.{◌≡◌, ℕ, ◌<◌, ◌≤◌, Bool, true, false, List, [], length, Option, Some, None, IfSome}
 use Rattle.run_schedule.specs.declared.reading.TheConstants.{MAX_SCHEDULE_BYTES}
 use Rattle.run_schedule.specs.Schedule.{channels_in, first_bad}
 use Rattle.controller.specs.declared.status.ScriptReason.{ScriptReason}
-use Rattle.controller.specs.declared.status.ScriptReason.TheVariants.{TooLong, Schedule}
+use Rattle.controller.specs.declared.status.ScriptReason.TheVariants.{TooLong, Script, Schedule}
 use Rattle.controller.specs.Words.{is_hyphen}
 
 -- the bytes are a schedule that gives these channels a turn each, in this order
@@ -16,6 +15,7 @@ pub record IsSchedule (bytes channels : List ℕ) : Type 0 where
 -- the bytes are none, for this reason
 abbrev pub RefusesSchedule : List ℕ → ScriptReason → Type 0
 RefusesSchedule bytes TooLong = MAX_SCHEDULE_BYTES < length bytes
+RefusesSchedule bytes (Script fault) = ⊥
 RefusesSchedule bytes (Schedule place) = (length bytes ≤ MAX_SCHEDULE_BYTES) × (first_bad bytes ≡ Some place)
 
 -- the channels of a schedule's word: none for a hyphen, and else those of the file of that name, of which `held` is told

@@ -19,8 +19,9 @@ abbrev pub help_text : List ℕ
 help_text =
     rows (codes "stepnc runs a STEP-NC project and writes its run log."
     ∷ []
-    ∷ codes "  stepnc replay PROJECT - SCHEDULE LIMIT"
+    ∷ codes "  stepnc replay PROJECT SCRIPT SCHEDULE LIMIT"
     ∷ codes "      runs the project in the file PROJECT, up to LIMIT entries (1 to 2000000);"
+    ∷ codes "      SCRIPT is a file of edits that are judged on the way, or -;"
     ∷ codes "      SCHEDULE is a file that says which channel has the next turn, or -"
     ∷ codes "  stepnc path PROJECT STEP"
     ∷ codes "      writes the path of workingstep STEP, one block a line"
@@ -32,8 +33,8 @@ help_text =
     ∷ codes "For example: stepnc replay examples/drilled_hole.stp - - 100"
     ∷ []
     ∷ codes "Exit status: 0 done or written, 1 blocked, 2 stopped at the limit, 3 bad words,"
-    ∷ codes "4 project refused, 5 schedule refused, 7 file not read, 8 output not taken,"
-    ∷ codes "9 out of memory."
+    ∷ codes "4 project refused, 5 script or schedule refused, 7 file not read,"
+    ∷ codes "8 output not taken, 9 out of memory."
     ∷ [])
 
 abbrev pub version_text : List ℕ

@@ -29,7 +29,7 @@ is_hyphen w = bytes_eq (codes "-") w
 
 -- the lines of the table
 abbrev pub replay_line : List Form
-replay_line = bytes_eq (codes "replay") ∷ is_name ∷ is_hyphen ∷ is_name ∷ is_limit ∷ []
+replay_line = bytes_eq (codes "replay") ∷ is_name ∷ is_name ∷ is_name ∷ is_limit ∷ []
 
 abbrev pub path_line : List Form
 path_line = bytes_eq (codes "path") ∷ is_name ∷ is_step ∷ []
@@ -68,11 +68,11 @@ pub record AreBadAt (ws : List (List ℕ)) (i : ℕ) : Type 0 where
   pub begun : begins_some (take i ws) ≡ true
   pub ended : i < length ws → begins_some (take (i + 1) ws) ≡ false
 
--- the words are those of a replay of this project file with this word for its schedule and with this limit
-abbrev pub IsReplay : List (List ℕ) → List ℕ → List ℕ → ℕ → Type 0
-IsReplay (w0 ∷ w1 ∷ w2 ∷ w3 ∷ w4 ∷ []) name schedule limit =
-    (is_line (w0 ∷ w1 ∷ w2 ∷ w3 ∷ w4 ∷ []) replay_line ≡ true) × (w1 ≡ name) × (w3 ≡ schedule) × (value_of w4 ≡ limit)
-IsReplay _ name schedule limit = ⊥
+-- the words are those of a replay of this project file with these words for its script and its schedule and with this limit
+abbrev pub IsReplay : List (List ℕ) → List ℕ → List ℕ → List ℕ → ℕ → Type 0
+IsReplay (w0 ∷ w1 ∷ w2 ∷ w3 ∷ w4 ∷ []) name script schedule limit =
+    (is_line (w0 ∷ w1 ∷ w2 ∷ w3 ∷ w4 ∷ []) replay_line ≡ true) × (w1 ≡ name) × (w2 ≡ script) × (w3 ≡ schedule) × (value_of w4 ≡ limit)
+IsReplay _ name script schedule limit = ⊥
 
 -- the words are those of the path of this workingstep of this project file
 abbrev pub IsPath : List (List ℕ) → List ℕ → ℕ → Type 0
@@ -81,15 +81,19 @@ IsPath _ name n = ⊥
 
 -- the words name this project file to read
 abbrev pub NamesProject : List (List ℕ) → List ℕ → Type 0
-NamesProject ws name = ((schedule : List ℕ) × (limit : ℕ) × IsReplay ws name schedule limit) ⊎ ((n : ℕ) × IsPath ws name n)
+NamesProject ws name = ((script schedule : List ℕ) × (limit : ℕ) × IsReplay ws name script schedule limit) ⊎ ((n : ℕ) × IsPath ws name n)
+
+-- the words name this script file to read
+abbrev pub NamesScript : List (List ℕ) → List ℕ → Type 0
+NamesScript ws name = (project schedule : List ℕ) × (limit : ℕ) × IsReplay ws project name schedule limit × (is_hyphen name ≡ false)
 
 -- the words name this schedule file to read
 abbrev pub NamesSchedule : List (List ℕ) → List ℕ → Type 0
-NamesSchedule ws name = (project : List ℕ) × (limit : ℕ) × IsReplay ws project name limit × (is_hyphen name ≡ false)
+NamesSchedule ws name = (project script : List ℕ) × (limit : ℕ) × IsReplay ws project script name limit × (is_hyphen name ≡ false)
 
 -- the words name this file to read
 abbrev pub Names : List (List ℕ) → List ℕ → Type 0
-Names ws name = NamesProject ws name ⊎ NamesSchedule ws name
+Names ws name = NamesProject ws name ⊎ (NamesScript ws name ⊎ NamesSchedule ws name)
 
 -- the words name no file to read
 abbrev pub NameNoFile : List (List ℕ) → Type 0

@@ -28,7 +28,7 @@ pub enum Answer {
     Version,
     /// The project is refused.
     Refused(ProjectReason),
-    /// The schedule is refused.
+    /// The script or the schedule is refused.
     ScriptRefused(ScriptReason),
     /// The project ran so.
     Ran(Log, Ending),
@@ -48,8 +48,9 @@ pub enum Stop {
 /// Which commands there are.
 const HELP: &[u8] = b"stepnc runs a STEP-NC project and writes its run log.\n\
     \n  \
-    stepnc replay PROJECT - SCHEDULE LIMIT\n      \
+    stepnc replay PROJECT SCRIPT SCHEDULE LIMIT\n      \
     runs the project in the file PROJECT, up to LIMIT entries (1 to 2000000);\n      \
+    SCRIPT is a file of edits that are judged on the way, or -;\n      \
     SCHEDULE is a file that says which channel has the next turn, or -\n  \
     stepnc path PROJECT STEP\n      \
     writes the path of workingstep STEP, one block a line\n  \
@@ -61,8 +62,8 @@ const HELP: &[u8] = b"stepnc runs a STEP-NC project and writes its run log.\n\
     For example: stepnc replay examples/drilled_hole.stp - - 100\n\
     \n\
     Exit status: 0 done or written, 1 blocked, 2 stopped at the limit, 3 bad words,\n\
-    4 project refused, 5 schedule refused, 7 file not read, 8 output not taken,\n\
-    9 out of memory.\n";
+    4 project refused, 5 script or schedule refused, 7 file not read,\n\
+    8 output not taken, 9 out of memory.\n";
 
 /// Which program this is.
 const VERSION: &[u8] = b"stepnc 0.1.0\n";

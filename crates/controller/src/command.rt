@@ -19,9 +19,10 @@ pub const NUMBER_DIGITS: usize = 10;
 /// What the words of a command ask for.
 #[derive(Clone, Copy)]
 pub enum Command<'a> {
-    /// To run the project in this file under the schedule that this word names, up to so many entries of the log.
+    /// To run the project in this file and the script that a word names under the schedule that another names, up to so many entries of the log.
     Replay {
         project: &'a NcText,
+        script: &'a NcText,
         schedule: &'a NcText,
         limit: u32,
     },
@@ -71,20 +72,6 @@ fn name_at(words: &[NcText], place: u32) -> Result<&NcText, u32>
     }
 }
 
-/// Passes over the hyphen at a place.
-///
-/// # Errors
-/// The place, where no hyphen stands there.
-fn hyphen_at(words: &[NcText], place: u32) -> Result<(), u32>
-    ensures { MatchResult result (λ _. has_word words.now place (bytes_eq (codes "-")) ≡ true) (λ bad. (bad ≡ place) × (has_word words.now place (bytes_eq (codes "-")) ≡ false)) }
-{
-    if is_at(words, place, b"-") {
-        Ok(())
-    } else {
-        Err(place)
-    }
-}
-
 /// The limit of entries at a place: 1 to `MAX_ENTRIES`.
 ///
 /// # Errors
@@ -131,12 +118,13 @@ fn replay_of(words: &[NcText]) -> Result<Command<'_>, u32>
     ensures { Ask words.now result }
 {
     let project = name_at(words, 1)?;
-    hyphen_at(words, 2)?;
+    let script = name_at(words, 2)?;
     let schedule = name_at(words, 3)?;
     let limit = limit_at(words, 4)?;
     end_at(words, 5)?;
     Ok(Command::Replay {
         project,
+        script,
         schedule,
         limit,
     })

@@ -6,6 +6,7 @@ ghost use Rattle.controller.specs.Meaning.{Meaning, Mean};
 ghost use Rattle.controller.specs.Asked.{IsRight};
 ghost use Rattle.controller.specs.Told.{IsTold};
 
+use edit_script::script_laws;
 use project_read::project_laws;
 
 /// Words mean one command with what it names, or are bad at one place: one of these, and never two. It does nothing.
@@ -24,4 +25,5 @@ pub fn answer_laws()
 {
     word_laws();
     project_laws();
+    script_laws();
 }

@@ -7,7 +7,7 @@
 //! | status | how a call ended, and its exit status | `Status` |
 //! | command, numerals | the words of a command | |
 //! | laws | words mean one command or are bad at one place, and have one answer | `word_laws`, `answer_laws` |
-//! | project_file, schedule_file, unheld | the project that a file holds, the schedule that a word names, or why there is none | |
+//! | project_file, script_file, schedule_file, unheld | the project that a file holds, the script and the schedule that words name, or why there is none | |
 //! | replaying, showing | what the commands do with a project | |
 //! | answer, refusal | an answer before it is written, and its text | |
 //!
@@ -22,6 +22,7 @@ mod project_file;
 mod refusal;
 mod replaying;
 mod schedule_file;
+mod script_file;
 mod showing;
 mod status;
 mod top_calls;

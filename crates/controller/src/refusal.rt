@@ -1,10 +1,11 @@
-//! The lines that say why a project or a schedule is refused.
+//! The lines that say why a project, a script or a schedule is refused.
 
 ghost use Rattle.std.specs.Prelude.{◌≡◌, ◌+◌, ◌≤◌, ◌++◌, ◌∷◌, length, decimal};
 ghost use Rattle.arrayvec.specs.ArrayVec.{array_vec_len};
-ghost use Rattle.controller.specs.Refusal.{one, two, lex_text, read_text, type_text, store_text, tree_text, fault_text, reason_text, refusal_line, script_text, script_line};
+ghost use Rattle.controller.specs.Refusal.{one, two, three, lex_text, read_text, type_text, store_text, tree_text, fault_text, reason_text, refusal_line, edits_text, script_text, script_line};
 
 use crate::status::ScriptReason;
+use edit_script::ScriptErr;
 use entity_read::TypeErr;
 use exec_tree::TreeErr;
 use itoa::Buffer;
@@ -35,6 +36,16 @@ fn put_two(line: &mut Line, name: &[u8], a: u32, b: u64)
     let mut buffer = Buffer::new();
     put(line, b" ");
     put(line, buffer.format(b).as_bytes());
+}
+
+/// Puts a name and three numbers at the line's end.
+fn put_three(line: &mut Line, name: &[u8], a: u32, b: u32, c: u32)
+    requires { array_vec_len line.old + (length name.now + 123) ≤ 256 }
+    ensures items { line.new.items ≡ line.old.items ++ three name.now a b c }
+    ensures len { array_vec_len line.new ≤ array_vec_len line.old + (length name.now + 123) }
+{
+    put_two(line, name, a, u64::from(b));
+    put_number(line, c);
 }
 
 /// Puts the fault of a text's tokens at the line's end.
@@ -170,19 +181,40 @@ pub fn refusal_line(reason: ProjectReason) -> Line
     line
 }
 
-/// Puts the name and the number of a reason at the line's end.
+/// Puts the fault of a script's text at the line's end.
+fn put_edits(line: &mut Line, fault: ScriptErr)
+    requires { array_vec_len line.old + 140 ≤ 256 }
+    ensures items { line.new.items ≡ line.old.items ++ edits_text fault }
+    ensures len { array_vec_len line.new ≤ array_vec_len line.old + 140 }
+{
+    match fault {
+        ScriptErr::Lex(fault) => put_lex(line, fault),
+        ScriptErr::Syntax(place) => put_one(line, b"Syntax", place),
+        ScriptErr::TooDeep(place) => put_one(line, b"TooDeep", place),
+        ScriptErr::TooMany(place) => put_one(line, b"TooMany", place),
+        ScriptErr::AtOrder(edit) => put_one(line, b"AtOrder", edit),
+        ScriptErr::Repeated(edit, n) => put_two(line, b"Repeated", edit, u64::from(n)),
+        ScriptErr::Attribute(edit, n, position) => {
+            put_three(line, b"Attribute", edit, n, position);
+        }
+        ScriptErr::NoMemory => put(line, b"NoMemory"),
+    }
+}
+
+/// Puts the name and the numbers of a reason at the line's end.
 fn put_script(line: &mut Line, reason: ScriptReason)
-    requires { array_vec_len line.old + 60 ≤ 256 }
+    requires { array_vec_len line.old + 140 ≤ 256 }
     ensures items { line.new.items ≡ line.old.items ++ script_text reason }
-    ensures len { array_vec_len line.new ≤ array_vec_len line.old + 60 }
+    ensures len { array_vec_len line.new ≤ array_vec_len line.old + 140 }
 {
     match reason {
         ScriptReason::TooLong => put(line, b"TooLong"),
+        ScriptReason::Script(fault) => put_edits(line, fault),
         ScriptReason::Schedule(place) => put_one(line, b"Schedule", place),
     }
 }
 
-/// The line that says why a schedule is refused.
+/// The line that says why a script or a schedule is refused.
 pub fn script_line(reason: ScriptReason) -> Line
     ensures { result.items ≡ script_line reason }
 {

@@ -1,23 +1,16 @@
 //! The schedule that a word names.
 
 ghost use Rattle.std.specs.Prelude.{◌≡◌, ℕ, ◌≤◌, ◌<◌, List, OnOk, IfOk, IsOk, All};
-ghost use Rattle.controller.specs.Words.{is_hyphen};
 ghost use Rattle.controller.specs.Calls.{ReadsSchedule};
 
 use crate::answer::Stop;
+use crate::script_file::is_hyphen;
 use crate::status::ScriptReason;
 use crate::unheld::Unheld;
 use nc_base::NcText;
 use nc_outside::{FileErr, Files};
 use run_schedule::{MAX_SCHEDULE_BYTES, ScheduleErr, read};
 use std::alloc::Global;
-
-/// Whether a word stands for no file.
-fn is_hyphen(word: &[u8]) -> bool
-    ensures { result ≡ is_hyphen word.now }
-{
-    b"-".as_slice() == word
-}
 
 /// The channels of the schedule that a word names: none where it is a hyphen, and else those of the file of that name.
 ///

@@ -3,13 +3,16 @@
 ghost use Rattle.std.specs.Prelude.{◌≡◌};
 ghost use Rattle.controller.specs.Codes.{code_of};
 
+use edit_script::ScriptErr;
 use project_read::ProjectReason;
 
-/// Why a schedule is refused.
+/// Why a script or a schedule is refused.
 #[derive(Clone, Copy, Debug, PartialEq, Eq)]
 pub enum ScriptReason {
-    /// The schedule has more than `MAX_SCHEDULE_BYTES` bytes.
+    /// The script or the schedule has more than 16,777,216 bytes.
     TooLong,
+    /// The script's text holds no script, for this reason. Want of memory is none of the reasons.
+    Script(ScriptErr),
     /// The place of the first byte that a schedule may not hold: a byte offset from 0.
     Schedule(u32),
 }
@@ -29,7 +32,7 @@ pub enum Status {
     BadWords(u32),
     /// The project is refused.
     ProjectRefused(ProjectReason),
-    /// The schedule is refused.
+    /// The script or the schedule is refused.
     ScriptRefused(ScriptReason),
     /// A file that the words name could not be read. Nothing is written.
     ReadFault,

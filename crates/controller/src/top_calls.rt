@@ -13,6 +13,7 @@ use crate::laws::word_laws;
 use crate::replaying::replay_files;
 use crate::showing::show_file;
 use crate::status::Status;
+use edit_script::script_laws;
 use nc_base::NcText;
 use nc_outside::{Files, Gate, Sink};
 use project_read::project_laws;
@@ -29,10 +30,11 @@ fn answer_to<F: Files>(alloc: Global, words: &[NcText], files: &mut F) -> Result
         Ok(
             Command::Replay {
                 project,
+                script,
                 schedule,
                 limit,
             },
-        ) => replay_files(alloc, project, schedule, limit, files),
+        ) => replay_files(alloc, project, script, schedule, limit, files),
         Ok(Command::Path { project, step }) => show_file(alloc, project, step, files),
         Ok(Command::Help) => Ok(Answer::Help),
         Ok(Command::Version) => Ok(Answer::Version),
@@ -63,7 +65,7 @@ fn serve<F: Files, S: Sink>(alloc: Global, words: &[NcText], files: &mut F, sink
 }
 
 /// Does what the words ask for: it needs neither threads nor a wait, and always returns. What it answers and has written is right for the
-/// words and the files: of a project the log of its run under the schedule, which is a legal run. Where the words and the files that they
+/// words and the files: of a project and a script of edits the log of their run under the schedule, which is a legal run. Where the words and the files that they
 /// name are good, and neither they nor the sink failed, a replay is written whole, and its status says how the run ends, unless memory ran out.
 pub fn quick<F: Files, S: Sink>(
     alloc: Global,
@@ -76,6 +78,7 @@ pub fn quick<F: Files, S: Sink>(
 {
     word_laws();
     project_laws();
+    script_laws();
     serve(alloc, words, files, sink)
 }
 

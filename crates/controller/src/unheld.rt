@@ -12,7 +12,7 @@ use project_read::ProjectReason;
 pub enum Unheld {
     /// It holds no project.
     Refused(ProjectReason),
-    /// It is no schedule.
+    /// It is no script, or no schedule.
     ScriptRefused(ScriptReason),
     /// What it holds isn't known: it could not be read, or memory ran out.
     Stopped(Stop),

@@ -294,7 +294,7 @@ const BAD_WORDS: [Row; 24] = [
     bad!(["replay", "plate.stp", "-", "-", "0"], 4),
     bad!(["replay", "plate.stp", "-", "-", "2000001"], 4),
     bad!(["replay", "plate.stp", "-", "-", "1e3"], 4),
-    bad!(["replay", "plate.stp", "X", "-", "100"], 2),
+    bad!(["replay", "plate.stp", "", "-", "100"], 2),
     bad!(["replay", "", "-", "-", "100"], 1),
     bad!(["replay", "plate.stp", "-"], 3),
     bad!(["replay", "plate.stp", "-", "", "100"], 3),

@@ -82,14 +82,16 @@ fn counting<F: Files + Drop>(files: F, wanted: Vec<NcText>) -> CountedFiles<F> {
     }
 }
 
-/// Files with this text in `plate.stp` that want to be read once for each of these names.
+/// Files with this text in `plate.stp` and a script of no edit in `edits` that want to be read once for each of these names.
 fn counted_files(
     alloc: Global,
     text: &str,
     names: &[&str],
 ) -> Result<CountedFiles<MemoryFiles>, NoMemory> {
     let wanted = texts(alloc, names)?;
-    Ok(counting(files_with(alloc, text)?, wanted))
+    let mut files = files_with(alloc, text)?;
+    files.add(&NcText::of(alloc, b"edits")?, b"")?;
+    Ok(counting(files, wanted))
 }
 
 fn counted_sink(alloc: Global) -> Result<CountedSink<MemorySink>, NoMemory> {
@@ -141,7 +143,7 @@ fn expect_pieces(
 }
 
 /// Words, and the names that they give to be read.
-const READS: [(&[&str], &[&str]); 13] = [
+const READS: [(&[&str], &[&str]); 18] = [
     (&REPLAY, &["plate.stp"]),
     (&PATH, &["plate.stp"]),
     (&["path", "plate.stp", "20"], &["plate.stp"]),
@@ -160,7 +162,27 @@ const READS: [(&[&str], &[&str]); 13] = [
     ),
     (&["replay", "plate.stp", "-", "", "7"], &[]),
     (&["path", "-", "10"], &["-"]),
-    (&["replay", "plate.stp", "plate.stp", "-", "7"], &[]),
+    (
+        &["replay", "plate.stp", "edits", "turns", "7"],
+        &["plate.stp", "edits", "turns"],
+    ),
+    (
+        &["replay", "plate.stp", "edits", "-", "7"],
+        &["plate.stp", "edits"],
+    ),
+    (
+        &["replay", "plate.stp", "plate.stp", "turns", "7"],
+        &["plate.stp", "plate.stp"],
+    ),
+    (
+        &["replay", "plate.stp", "missing", "turns", "7"],
+        &["plate.stp", "missing"],
+    ),
+    (
+        &["replay", "missing.stp", "edits", "turns", "7"],
+        &["missing.stp"],
+    ),
+    (&["replay", "plate.stp", "", "-", "7"], &[]),
     (&["path", "plate.stp", "0"], &[]),
     (&["--help"], &[]),
     (&["--version"], &[]),
@@ -190,7 +212,7 @@ fn expect_refused_reads(rt: &impl Abort, alloc: Global, old: &str, new: &str) ->
         rt,
         alloc,
         &text,
-        &["replay", "plate.stp", "-", "turns", "7"],
+        &["replay", "plate.stp", "edits", "turns", "7"],
         &["plate.stp"],
     )?;
     expect_reads(rt, alloc, &text, &PATH, &["plate.stp"])?;

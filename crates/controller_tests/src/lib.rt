@@ -13,3 +13,5 @@ mod long_run;
 mod projects;
 #[cfg(test)]
 mod schedules;
+#[cfg(test)]
+mod scripts;

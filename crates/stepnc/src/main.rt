@@ -26,13 +26,16 @@ fn words_of(rt: HostRuntime) -> Result<Vec<NcText>, NoMemory> {
 }
 
 /// What a person calls the file of a command that was the last of so many to be asked for, and its name: the project is the second word of
-/// each command that reads one, and its schedule, which is read behind it, the fourth.
+/// each command that reads one, its script, which is read behind it unless the word is a hyphen, the third, and its schedule, which is read last,
+/// the fourth.
 fn file_asked(words: &[NcText], asked: u8) -> (&str, &str) {
-    match (words, asked) {
-        ([_, _, _, name, ..], 2) => ("schedule", str::from_utf8(name.bytes()).unwrap_or("?")),
-        ([_, name, ..], _) => ("project", str::from_utf8(name.bytes()).unwrap_or("?")),
-        _ => ("project", "?"),
-    }
+    let (kind, name) = match (words, asked) {
+        ([_, _, script, ..], 2) if script.bytes() != b"-".as_slice() => ("script", script),
+        ([_, _, _, schedule, ..], 2 | 3) => ("schedule", schedule),
+        ([_, project, ..], _) => ("project", project),
+        _ => return ("project", "?"),
+    };
+    (kind, str::from_utf8(name.bytes()).unwrap_or("?"))
 }
 
 /// Says in one line on standard error what a person has to know beside the status and the refusal line, with what the host said of a file

@@ -1,5 +1,14 @@
-use Rattle.controller.proofs.AnswersLemmas.{one_answer}
+use Rattle.controller.proofs.AnswersLemmas.{Laws, one_answer}
 use Rattle.controller.proofs.laws.answer_laws.Goals as goal
 
 pub returns : goal.returns
-returns c = one_answer c.word_laws.ensures.one c.project_laws.ensures.one c.project_laws.ensures.apart c.project_laws.ensures.single
+returns c =
+    let laws : Laws = record {
+      one_project = c.project_laws.ensures.one;
+      no_refusal = c.project_laws.ensures.apart;
+      one_reason = c.project_laws.ensures.single;
+      one_script = c.script_laws.ensures.one;
+      no_fault = c.script_laws.ensures.apart;
+      one_fault = c.script_laws.ensures.single;
+    } in
+    one_answer c.word_laws.ensures.one laws

@@ -7,8 +7,8 @@ use Rattle.controller.proofs.top_calls.answer_to.Goals as goal
 
 pub returns-in-Ok-Replay-clause-untouched : goal.returns-in-Ok-Replay-clause-untouched
 returns-in-Ok-Replay-clause-untouched g c =
-    let asked : Ask c.args.words.now (Ok (Replay c.in-Ok-Replay.project c.in-Ok-Replay.schedule c.in-Ok-Replay.limit)) = rw c.in-Ok-Replay.field-0-is at c.in-Ok-Replay.ensures in
-    λ unnamed. absurd (unnamed c.in-Ok-Replay.project.now (inl (inl (c.in-Ok-Replay.schedule.now, c.in-Ok-Replay.limit, asked))))
+    let asked : Ask c.args.words.now (Ok (Replay c.in-Ok-Replay.project c.in-Ok-Replay.script c.in-Ok-Replay.schedule c.in-Ok-Replay.limit)) = rw c.in-Ok-Replay.field-0-is at c.in-Ok-Replay.ensures in
+    λ unnamed. absurd (unnamed c.in-Ok-Replay.project.now (inl (inl (c.in-Ok-Replay.script.now, c.in-Ok-Replay.schedule.now, c.in-Ok-Replay.limit, asked))))
 
 pub returns-in-Ok-Path-clause-untouched : goal.returns-in-Ok-Path-clause-untouched
 returns-in-Ok-Path-clause-untouched g c =
@@ -17,14 +17,14 @@ returns-in-Ok-Path-clause-untouched g c =
 
 pub returns-in-Ok-Replay-clause-answer : goal.returns-in-Ok-Replay-clause-answer
 returns-in-Ok-Replay-clause-answer g c =
-    let asked : Ask c.args.words.now (Ok (Replay c.in-Ok-Replay.project c.in-Ok-Replay.schedule c.in-Ok-Replay.limit)) = rw c.in-Ok-Replay.field-0-is at c.in-Ok-Replay.ensures in
-    replay_answers c.args.words.now (g.F.Files.holds c.args.files.now) (g.F.Files.faults c.args.files.now) (g.F.Files.faults c.replay_files.new.files) c.in-Ok-Replay.project.now c.in-Ok-Replay.schedule.now c.in-Ok-Replay.limit
+    let asked : Ask c.args.words.now (Ok (Replay c.in-Ok-Replay.project c.in-Ok-Replay.script c.in-Ok-Replay.schedule c.in-Ok-Replay.limit)) = rw c.in-Ok-Replay.field-0-is at c.in-Ok-Replay.ensures in
+    replay_answers c.args.words.now (g.F.Files.holds c.args.files.now) (g.F.Files.faults c.args.files.now) (g.F.Files.faults c.replay_files.new.files) c.in-Ok-Replay.project.now c.in-Ok-Replay.script.now c.in-Ok-Replay.schedule.now c.in-Ok-Replay.limit
     c.replay_files.result asked c.replay_files.ensures.answer
 
 pub replay_files-requires : goal.replay_files-requires
 replay_files-requires g c =
-    let asked : Ask c.args.words.now (Ok (Replay c.in-Ok-Replay.project c.in-Ok-Replay.schedule c.in-Ok-Replay.limit)) = rw c.in-Ok-Replay.field-0-is at c.in-Ok-Replay.ensures in
-    limit_within c.args.words.now c.in-Ok-Replay.project.now c.in-Ok-Replay.schedule.now c.in-Ok-Replay.limit asked
+    let asked : Ask c.args.words.now (Ok (Replay c.in-Ok-Replay.project c.in-Ok-Replay.script c.in-Ok-Replay.schedule c.in-Ok-Replay.limit)) = rw c.in-Ok-Replay.field-0-is at c.in-Ok-Replay.ensures in
+    limit_within c.args.words.now c.in-Ok-Replay.project.now c.in-Ok-Replay.script.now c.in-Ok-Replay.schedule.now c.in-Ok-Replay.limit asked
 
 pub returns-in-Ok-Path-clause-answer : goal.returns-in-Ok-Path-clause-answer
 returns-in-Ok-Path-clause-answer g c =
