@@ -36,8 +36,8 @@ const RUNS: &str = "|D 10 0 / step / end done 8\n\
 
 /// The same of two holes with one tool.
 const RUNS_OF_TWO: &str =
-    "EDIT AT 1; #44=MILLING_CUTTING_TOOL('X',#46); ENDEDIT;|D 10 0 / X 0 no J4 10 0 / step / D 11 0 / B 11 0 R 10000 20000 30000 / B 11 1 R 10000 20000 5000 / B 11 2 F 10000 20000 -8000 40 / B 11 3 R 10000 20000 5000 / B 11 4 R 10000 20000 30000 / E 11 / end done 16\n\
-    EDIT AT 1; #75=CARTESIAN_POINT('',(0.,0.,-9.)); ENDEDIT;|D 10 0 / X 0 ok / step / D 11 1 / B 11 0 R 10000 20000 30000 / B 11 1 R 10000 20000 5000 / B 11 2 F 10000 20000 -9000 40 / B 11 3 R 10000 20000 5000 / B 11 4 R 10000 20000 30000 / E 11 / end done 16\n";
+    "EDIT AT 1; #44=MILLING_CUTTING_TOOL('X',#46); ENDEDIT;|D 10 0 / X 0 no J4 10 0 / step / D 11 0 / B 11 0 T 44 20000 / B 11 1 R 10000 20000 30000 / B 11 2 R 10000 20000 5000 / B 11 3 F 10000 20000 -8000 40 / B 11 4 R 10000 20000 5000 / B 11 5 R 10000 20000 30000 / E 11 / end done 17\n\
+    EDIT AT 1; #75=CARTESIAN_POINT('',(0.,0.,-9.)); ENDEDIT;|D 10 0 / X 0 ok / step / D 11 1 / B 11 0 T 44 20000 / B 11 1 R 10000 20000 30000 / B 11 2 R 10000 20000 5000 / B 11 3 F 10000 20000 -9000 40 / B 11 4 R 10000 20000 5000 / B 11 5 R 10000 20000 30000 / E 11 / end done 17\n";
 
 /// A line for each script that is refused, with its refusal.
 const REFUSED: &str = "EDIT AT 5; ENDEDIT; EDIT AT 4; ENDEDIT;|AtOrder 1\n\
