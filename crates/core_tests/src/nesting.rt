@@ -97,7 +97,7 @@ fn expect_main(
     let last = format!(in alloc; "end {ending} {count}")?;
     let limit = count.saturating_add(room);
     let wanted = log_up_to(alloc, &lines, &last, limit)?;
-    expect_run(rt, alloc, &data, &[], limit, &wanted, &nested.instances)
+    expect_run(rt, alloc, &data, "", &[], limit, &wanted, &nested.instances)
 }
 
 /// Stops unless each kind in the inner of two holders makes the entries that it should.
