@@ -1,4 +1,5 @@
-//! The path of a planar face: the blocks that its definition stands for. The tests stand in the crate path_tests.
+//! The path of a planar face: the blocks that its definition stands for, and where the rows of a face lie. The tests stand in the
+//! crate path_tests.
 #![tactic(auto)]
 
 ghost use Rattle.std.specs.Prelude.{◌≡◌, ◌≤◌, ◌∷◌, [], ◌++◌, IfOk, IsTrue, OnOk};
@@ -11,7 +12,8 @@ ghost use Rattle.path_plane.specs.Facing.{face_of};
 
 mod facing;
 
-use crate::facing::Facing;
+pub use facing::Facing;
+
 use nc_base::NoMemory;
 use path_blocks::{Block, Def, Plan, Shape};
 use std::alloc::Global;

@@ -6,22 +6,22 @@ ghost use Rattle.path_blocks.specs.Range.{fits_shape};
 
 /// The sides of a rectangle.
 #[derive(Clone, Copy)]
-pub(crate) struct Corners {
-    pub(crate) left: i64,
-    pub(crate) low: i64,
-    pub(crate) right: i64,
-    pub(crate) high: i64,
+pub struct Corners {
+    pub left: i64,
+    pub low: i64,
+    pub right: i64,
+    pub high: i64,
 }
 
-/// The numbers of a pocket, as its shape has them.
+/// The numbers of a pocket, as its shape has them, and where its rings lie.
 #[derive(Clone, Copy)]
-pub(crate) struct Inset {
-    pub(crate) left: i64,
-    pub(crate) low: i64,
-    pub(crate) right: i64,
-    pub(crate) high: i64,
-    pub(crate) radial: i64,
-    pub(crate) ghost fits: { IsTrue (fits_shape (Pocket left low right high radial)) },
+pub struct Inset {
+    pub left: i64,
+    pub low: i64,
+    pub right: i64,
+    pub high: i64,
+    pub radial: i64,
+    pub ghost fits: { IsTrue (fits_shape (Pocket left low right high radial)) },
 }
 
 impl Inset {
@@ -49,7 +49,7 @@ impl Inset {
     }
 
     /// The number of the innermost ring.
-    pub(crate) fn innermost(&self) -> u64
+    pub fn innermost(&self) -> u64
         ensures exact { result ≡ innermost (rectangle_of self.now) self.now.radial }
         ensures few { result ≤ 2 * MAX_SIZE }
     {
@@ -57,7 +57,7 @@ impl Inset {
     }
 
     /// The sides of the rectangle.
-    pub(crate) fn corners(&self) -> Corners
+    pub fn corners(&self) -> Corners
         ensures { rectangle_between result ≡ rectangle_of self.now }
     {
         Corners {
@@ -69,7 +69,7 @@ impl Inset {
     }
 
     /// The ring with this number, from the rectangle itself inwards.
-    pub(crate) fn ring(&self, number: u64) -> Corners
+    pub fn ring(&self, number: u64) -> Corners
         requires { number ≤ innermost (rectangle_of self.now) self.now.radial }
         ensures { rectangle_between result ≡ ring (rectangle_of self.now) self.now.radial number }
     {

@@ -1,4 +1,5 @@
-//! The path of a rectangular pocket: the blocks that its definition stands for. The tests stand in the crate path_tests.
+//! The path of a rectangular pocket: the blocks that its definition stands for, and where the rings of a pocket lie. The tests stand
+//! in the crate path_tests.
 #![tactic(auto)]
 
 ghost use Rattle.std.specs.Prelude.{◌≡◌, ◌≤◌, ◌∷◌, [], ◌++◌, All, IfOk, IsTrue, OnOk};
@@ -12,7 +13,8 @@ ghost use Rattle.path_pocket.specs.Inset.{rectangle_between, rectangle_of};
 
 mod inset;
 
-use crate::inset::{Corners, Inset};
+pub use inset::{Corners, Inset};
+
 use nc_base::NoMemory;
 use path_blocks::{Block, Def, Plan, Shape};
 use std::alloc::Global;

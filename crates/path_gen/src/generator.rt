@@ -1,0 +1,154 @@
+//! The path of a definition, block by block.
+
+ghost use Rattle.std.specs.Prelude.{◌≡◌, ◌≤◌, ◌<◌, ◌+◌, ◌++◌, ◌↔◌, IsNone, Some, length, slice_get};
+ghost use Rattle.path_blocks.specs.Path.{path_of};
+ghost use Rattle.path_blocks.specs.Place.{IsAtEnd, ahead, behind, onward, start};
+ghost use Rattle.path_gen.specs.declared.generator.Filled.TheVariants.{Whole, More};
+
+use crate::{face, hole, pocket};
+use path_blocks::{Block, Def, PlanPart, Shape};
+use path_plane::Facing;
+use path_pocket::Inset;
+use std::marker::Model;
+
+/// Whether the path is complete.
+#[derive(Clone, Copy, Debug, PartialEq, Eq)]
+pub enum Filled {
+    /// All its blocks are there.
+    Whole,
+    /// There are more blocks to come.
+    More,
+}
+
+/// The path of a definition, handed out block by block from its beginning to its end. Contracts see how far along the path it is.
+#[derive(Clone, Copy)]
+pub struct Gen {
+    definition: Def,
+    next: u32,
+    count: u32,
+}
+
+impl Model for Gen {
+    ghost use Rattle.std.specs.Prelude.{◌≡◌, ◌≤◌, length};
+    ghost use Rattle.path_blocks.specs.Path.{path_of};
+    ghost use Rattle.path_blocks.specs.Place.{Place};
+
+    ghost Value = { Place };
+
+    ghost view = { λ g. record { def = g.definition; given = g.next } };
+
+    ghost invariant = { λ g. (g.count ≡ length (path_of g.definition)) × (g.next ≤ g.count) };
+
+    ghost inverse = { λ p. record { definition = p.def; next = p.given; count = length (path_of p.def) } };
+}
+
+/// The block with this index, counted from 0, of a path with `count` blocks.
+fn block_at(def: &Def, count: u32, index: u32) -> Block
+    requires counted { count ≡ length (path_of def.now) }
+    requires index { index < count }
+    ensures { slice_get (path_of def.now) index ≡ Some result }
+{
+    let index = u64::from(index);
+    let last = u64::from(count) - 1;
+    match def.shape {
+        Shape::Drill { x, y, dwell } => hole::block(def, x, y, dwell, index),
+        Shape::Plane {
+            x,
+            y,
+            ux,
+            uy,
+            length,
+            width,
+            step,
+            both,
+        } => {
+            let facing = Facing {
+                x,
+                y,
+                ux,
+                uy,
+                length,
+                width,
+                step,
+                both,
+            };
+            face::block(def, &facing, last, index)
+        }
+        Shape::Pocket {
+            left,
+            low,
+            right,
+            high,
+            radial,
+        } => {
+            let inset = Inset {
+                left,
+                low,
+                right,
+                high,
+                radial,
+            };
+            pocket::block(def, &inset, last, index)
+        }
+    }
+}
+
+impl Gen {
+    /// The whole path of a definition, none of which was handed out.
+    pub fn new(def: &Def) -> Gen
+        ensures { result ≡ start def.now }
+    {
+        Gen {
+            definition: *def,
+            next: 0,
+            count: def.count(),
+        }
+    }
+
+    /// The definition whose path it is.
+    pub fn def(&self) -> &Def
+        ensures { result.now ≡ self.now.def }
+    {
+        &self.definition
+    }
+
+    /// How many blocks were handed out, at most as many as the path has.
+    pub fn given(&self) -> u32
+        ensures exact { result ≡ self.now.given }
+        ensures few { result ≤ length (path_of self.now.def) }
+    {
+        self.next
+    }
+
+    /// How many blocks are still to come.
+    pub fn left(&self) -> u32
+        ensures { result ≡ length (ahead self.now) }
+    {
+        self.count - self.next
+    }
+
+    /// The block that `next` hands out, or None at the path's end. Nothing moves.
+    pub fn peek(&self) -> Option<Block>
+        ensures exact { result ≡ slice_get (path_of self.now.def) self.now.given }
+        ensures end { IsNone result ↔ IsAtEnd self.now }
+    {
+        if self.next < self.count {
+            Some(block_at(&self.definition, self.count, self.next))
+        } else {
+            None
+        }
+    }
+
+    /// Hands out the next block, or None exactly at the path's end.
+    pub fn next(&mut self) -> Option<Block>
+        ensures exact { result ≡ slice_get (path_of self.old.def) self.old.given }
+        ensures end { IsNone result ↔ IsAtEnd self.old }
+        ensures moves { self.new ≡ onward self.old 1 }
+    {
+        let block = self.peek();
+        if block.is_some() {
+            self.next += 1;
+        }
+        block
+    }
+}
