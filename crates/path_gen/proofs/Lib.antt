@@ -1,1 +1,4 @@
 mod Pieces
+mod Holes
+mod Faces
+mod Pockets

@@ -1,5 +1,5 @@
 -- An element of lists that are put one after the other.
-use Rattle.std.proofs.Common.{◌≡◌, ◌∙◌, sym, refl, ap, arith, ℕ, zero, suc, ◌+◌, ◌*◌, ◌/◌, ◌%◌, ◌<◌, List, [], ◌∷◌, ◌++◌, length, Some}
+use Rattle.std.proofs.Common.{◌≡◌, ◌∙◌, sym, refl, ap, arith, ℕ, zero, suc, ◌+◌, ◌-◌, ◌*◌, ◌/◌, ◌%◌, ◌<◌, List, [], ◌∷◌, ◌++◌, length, Some}
 use Rattle.std.specs.Prelude.{slice_get}
 use Rattle.std.specs.List.{flat_map}
 use Rattle.std.proofs.lemmas.Option.{same_Some}
@@ -44,3 +44,8 @@ unfolding down_from
 of_down zero i j e = absurd (omega (arith, e))
 of_down (suc n) zero j e = ap (λ (k : ℕ). Some k) (omega (arith, e))
 of_down (suc n) (suc i) j e = of_down n i j (omega (arith, e))
+
+-- an element after the first
+pub of_later : {A : Type 0} (x : A) (xs : List A) (i : ℕ) → (i ≡ 0 → ⊥) → slice_get (x ∷ xs) i ≡ slice_get xs (i - 1)
+of_later x xs zero h = absurd (h refl)
+of_later x xs (suc i) h = ap (λ (n : ℕ). slice_get xs n) (omega arith)

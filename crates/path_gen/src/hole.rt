@@ -4,6 +4,7 @@ ghost use Rattle.std.specs.Prelude.{◌≡◌, ◌<◌, ◌++◌, Some, length, 
 ghost use Rattle.path_blocks.specs.Numbers.{numbers_of};
 ghost use Rattle.path_blocks.specs.PathDrill.{dwell_blocks, path_drill, up_from};
 
+use crate::tool::tool_block;
 use path_blocks::{Block, Def};
 
 /// One of the moves back up, to the retract plane and to the security plane.
@@ -35,10 +36,7 @@ pub(crate) fn block(def: &Def, x: i64, y: i64, dwell: i64, index: u64) -> Block
     ensures { slice_get (path_drill (numbers_of def.now) x y dwell) index ≡ Some result }
 {
     match index {
-        0 => Block::Tool {
-            tool: def.tool,
-            spindle: def.spindle,
-        },
+        0 => tool_block(def),
         1 => Block::Rapid { x, y, z: def.sec },
         2 => Block::Rapid { x, y, z: def.ret },
         3 => Block::Feed {

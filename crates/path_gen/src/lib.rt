@@ -6,6 +6,7 @@
 //! | hole | the block of a drilled hole's path at an index | |
 //! | face | the block of a planar face's path at an index | |
 //! | pocket | the block of a pocket's path at an index | |
+//! | tool | the block that every path begins with | |
 //! | laws | what was handed out, joined with what is still to come | `pieces_join` |
 //!
 //! Each level of a face or a pocket has as many blocks as any other, so a division tells the level of a block, and what is left over
@@ -16,5 +17,6 @@ mod face;
 mod generator;
 mod hole;
 mod pocket;
+mod tool;
 
 pub use generator::{Filled, Gen};

@@ -2,10 +2,12 @@
 
 ghost use Rattle.std.specs.Prelude.{◌≡◌, ◌<◌, ◌+◌, ◌*◌, Some, length, slice_get};
 ghost use Rattle.std.specs.List.{flat_map};
+ghost use Rattle.path_blocks.specs.declared.block.Block.TheVariants.{Feed};
 ghost use Rattle.path_blocks.specs.Numbers.{levels, numbers_of};
 ghost use Rattle.path_blocks.specs.PathPocket.{innermost, path_pocket, pocket_level, rapid_over, rings, round};
 ghost use Rattle.path_pocket.specs.Inset.{rectangle_between, rectangle_of};
 
+use crate::tool::tool_block;
 use path_blocks::{Block, Def};
 use path_pocket::{Corners, Inset};
 
@@ -20,22 +22,28 @@ fn rapid(corners: &Corners, z: i64) -> Block
     }
 }
 
-/// One of the blocks once round a rectangle: lower left, lower right, upper right, upper left, lower left.
-fn corner_block(def: &Def, corners: &Corners, z: i64, index: u64) -> Block
-    requires { index < 5 }
-    ensures { slice_get (round (numbers_of def.now) z (rectangle_between corners.now)) index ≡ Some result }
+/// A feed to a point.
+fn feed(def: &Def, x: i64, y: i64, z: i64) -> Block
+    ensures { result ≡ Feed x y z def.now.feed }
 {
-    let (x, y) = match index {
-        1 => (corners.right, corners.low),
-        2 => (corners.right, corners.high),
-        3 => (corners.left, corners.high),
-        _ => (corners.left, corners.low),
-    };
     Block::Feed {
         x,
         y,
         z,
         f: def.feed,
+    }
+}
+
+/// One of the blocks once round a rectangle: lower left, lower right, upper right, upper left, lower left.
+fn corner_block(def: &Def, corners: &Corners, z: i64, index: u64) -> Block
+    requires { index < 5 }
+    ensures { slice_get (round (numbers_of def.now) z (rectangle_between corners.now)) index ≡ Some result }
+{
+    match index {
+        1 => feed(def, corners.right, corners.low, z),
+        2 => feed(def, corners.right, corners.high, z),
+        3 => feed(def, corners.left, corners.high, z),
+        _ => feed(def, corners.left, corners.low, z),
     }
 }
 
@@ -52,7 +60,7 @@ fn ring_block(def: &Def, inset: &Inset, z: i64, inner: u64, index: u64) -> Block
 /// retract plane.
 fn level_block(def: &Def, inset: &Inset, z: i64, inner: u64, index: u64) -> Block
     requires inner { inner ≡ innermost (rectangle_of inset.now) inset.now.radial }
-    requires index { index < length (pocket_level (numbers_of def.now) (rectangle_of inset.now) inset.now.radial z) }
+    requires index { index < 2 + 5 * (inner + 1) }
     ensures { slice_get (pocket_level (numbers_of def.now) (rectangle_of inset.now) inset.now.radial z) index ≡ Some result }
 {
     if index == 0 {
@@ -81,10 +89,7 @@ pub(crate) fn block(def: &Def, inset: &Inset, last: u64, index: u64) -> Block
     ensures { slice_get (path_pocket (numbers_of def.now) (rectangle_of inset.now) inset.now.radial) index ≡ Some result }
 {
     match index {
-        0 => Block::Tool {
-            tool: def.tool,
-            spindle: def.spindle,
-        },
+        0 => tool_block(def),
         1 => rapid(&inset.ring(inset.innermost()), def.sec),
         _ if index < last => levels_block(def, inset, index - 2),
         _ => rapid(&inset.corners(), def.sec),

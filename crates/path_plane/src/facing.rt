@@ -4,7 +4,7 @@ ghost use Rattle.std.specs.Prelude.{IsTrue};
 ghost use Rattle.path_blocks.specs.declared.def.Shape.TheVariants.{Plane};
 ghost use Rattle.path_blocks.specs.Range.{fits_shape};
 
-use path_blocks::{cut, cut_count};
+use path_blocks::{Def, Shape, cut, cut_count};
 
 /// The numbers of a planar face, as its shape has them, and where its rows lie.
 #[derive(Clone, Copy)]
@@ -21,11 +21,43 @@ pub struct Facing {
 }
 
 impl Facing {
-    ghost use Rattle.std.specs.Prelude.{◌≡◌, ◌<◌, ◌≤◌, ◌+◌, ◌*◌, ◌*ℤ◌, length, slice_get, Some, unsigned_abs};
+    ghost use Rattle.std.specs.Prelude.{IsTrue, ◌≡◌, ◌<◌, ◌≤◌, ◌+◌, ◌*◌, ◌*ℤ◌, length, slice_get, Some, unsigned_abs};
     ghost use Rattle.path_blocks.specs.declared.limits.TheConstants.{MAX_SIZE};
     ghost use Rattle.path_blocks.specs.Cuts.{cut_count};
-    ghost use Rattle.path_blocks.specs.PathPlane.{far_end, is_run_back, last_end, near_end, row_end, row_start, rows};
+    ghost use Rattle.path_blocks.specs.Kind.{is_plane};
+    ghost use Rattle.path_blocks.specs.Numbers.{numbers_of};
+    ghost use Rattle.path_blocks.specs.Path.{path_of};
+    ghost use Rattle.path_blocks.specs.PathPlane.{far_end, is_run_back, last_end, near_end, path_plane, row_end, row_start, rows};
     ghost use Rattle.path_plane.specs.Facing.{face_of};
+
+    /// The numbers of a definition whose shape is a planar face.
+    pub fn of(def: &Def) -> Facing
+        requires { IsTrue (is_plane def.now.shape) }
+        ensures { path_plane (numbers_of def.now) (face_of result) ≡ path_of def.now }
+    {
+        match def.shape {
+            Shape::Plane {
+                x,
+                y,
+                ux,
+                uy,
+                length,
+                width,
+                step,
+                both,
+            } => Facing {
+                x,
+                y,
+                ux,
+                uy,
+                length,
+                width,
+                step,
+                both,
+            },
+            Shape::Drill { .. } | Shape::Pocket { .. } => unreachable!(),
+        }
+    }
 
     /// The near end of the row so far across the course.
     pub fn near_end(&self, offset: u64) -> (i64, i64)

@@ -15,7 +15,7 @@ mod facing;
 pub use facing::Facing;
 
 use nc_base::NoMemory;
-use path_blocks::{Block, Def, Plan, Shape};
+use path_blocks::{Block, Def, Plan};
 use std::alloc::Global;
 
 /// Puts a rapid move to a point at the height `z`.
@@ -112,29 +112,5 @@ pub fn path(alloc: Global, def: &Def) -> Result<Plan, NoMemory>
     requires { IsTrue (is_plane def.now.shape) }
     ensures { IfOk result (λ plan. plan ≡ def.now) }
 {
-    match def.shape {
-        Shape::Plane {
-            x,
-            y,
-            ux,
-            uy,
-            length,
-            width,
-            step,
-            both,
-        } => {
-            let facing = Facing {
-                x,
-                y,
-                ux,
-                uy,
-                length,
-                width,
-                step,
-                both,
-            };
-            Ok(Plan::new(*def, blocks_of(alloc, def, &facing)?))
-        }
-        Shape::Drill { .. } | Shape::Pocket { .. } => unreachable!(),
-    }
+    Ok(Plan::new(*def, blocks_of(alloc, def, &Facing::of(def))?))
 }

@@ -4,6 +4,8 @@ ghost use Rattle.std.specs.Prelude.{IsTrue};
 ghost use Rattle.path_blocks.specs.declared.def.Shape.TheVariants.{Pocket};
 ghost use Rattle.path_blocks.specs.Range.{fits_shape};
 
+use path_blocks::{Def, Shape};
+
 /// The sides of a rectangle.
 #[derive(Clone, Copy)]
 pub struct Corners {
@@ -25,10 +27,36 @@ pub struct Inset {
 }
 
 impl Inset {
-    ghost use Rattle.std.specs.Prelude.{◌≡◌, ◌<◌, ◌≤◌, ◌+◌, ◌*◌, ◌-ℤ◌, min, unsigned_abs};
+    ghost use Rattle.std.specs.Prelude.{IsTrue, ◌≡◌, ◌<◌, ◌≤◌, ◌+◌, ◌*◌, ◌-ℤ◌, min, unsigned_abs};
     ghost use Rattle.path_blocks.specs.declared.limits.TheConstants.{MAX_SIZE};
-    ghost use Rattle.path_blocks.specs.PathPocket.{innermost, ring};
+    ghost use Rattle.path_blocks.specs.Kind.{is_pocket};
+    ghost use Rattle.path_blocks.specs.Numbers.{numbers_of};
+    ghost use Rattle.path_blocks.specs.Path.{path_of};
+    ghost use Rattle.path_blocks.specs.PathPocket.{innermost, path_pocket, ring};
     ghost use Rattle.path_pocket.specs.Inset.{rectangle_between, rectangle_of};
+
+    /// The numbers of a definition whose shape is a rectangular pocket.
+    pub fn of(def: &Def) -> Inset
+        requires { IsTrue (is_pocket def.now.shape) }
+        ensures { path_pocket (numbers_of def.now) (rectangle_of result) result.radial ≡ path_of def.now }
+    {
+        match def.shape {
+            Shape::Pocket {
+                left,
+                low,
+                right,
+                high,
+                radial,
+            } => Inset {
+                left,
+                low,
+                right,
+                high,
+                radial,
+            },
+            Shape::Drill { .. } | Shape::Plane { .. } => unreachable!(),
+        }
+    }
 
     /// How far apart the rings lie.
     fn ring_step(&self) -> u64

@@ -16,7 +16,7 @@ mod inset;
 pub use inset::{Corners, Inset};
 
 use nc_base::NoMemory;
-use path_blocks::{Block, Def, Plan, Shape};
+use path_blocks::{Block, Def, Plan};
 use std::alloc::Global;
 
 /// Puts a rapid move to the lower left of a rectangle at the height `z`.
@@ -106,23 +106,5 @@ pub fn path(alloc: Global, def: &Def) -> Result<Plan, NoMemory>
     ensures exact { IfOk result (λ plan. plan ≡ def.now) }
     ensures within { IfOk result (λ plan. All (StaysWithin def.now.bottom def.now.shape) (path_of plan)) }
 {
-    match def.shape {
-        Shape::Pocket {
-            left,
-            low,
-            right,
-            high,
-            radial,
-        } => {
-            let inset = Inset {
-                left,
-                low,
-                right,
-                high,
-                radial,
-            };
-            Ok(Plan::new(*def, blocks_of(alloc, def, &inset)?))
-        }
-        Shape::Drill { .. } | Shape::Plane { .. } => unreachable!(),
-    }
+    Ok(Plan::new(*def, blocks_of(alloc, def, &Inset::of(def))?))
 }

@@ -1,0 +1,10 @@
+use Rattle.std.proofs.Common.{◌≡◌, ◌∙◌, ◌-◌, ◌++◌, arith}
+use Rattle.path_blocks.specs.Numbers.{numbers_of}
+use Rattle.path_blocks.specs.PathDrill.{down_into, dwell_blocks, up_from}
+use Rattle.path_gen.proofs.Pieces.{of_second}
+use Rattle.path_gen.proofs.hole.block.Goals as goal
+
+pub returns-in_default : goal.returns-in_default
+returns-in_default c =
+    of_second (down_into (numbers_of c.args.def.now) c.args.x c.args.y) (dwell_blocks c.args.dwell ++ up_from (numbers_of c.args.def.now) c.args.x c.args.y) c.args.index (c.args.index - 4) (omega arith)
+    ∙ c.back_block.ensures
