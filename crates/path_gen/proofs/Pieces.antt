@@ -49,3 +49,7 @@ of_down (suc n) (suc i) j e = of_down n i j (omega (arith, e))
 pub of_later : {A : Type 0} (x : A) (xs : List A) (i : ℕ) → (i ≡ 0 → ⊥) → slice_get (x ∷ xs) i ≡ slice_get xs (i - 1)
 of_later x xs zero h = absurd (h refl)
 of_later x xs (suc i) h = ap (λ (n : ℕ). slice_get xs n) (omega arith)
+
+-- an element of the same list at the same index
+pub told_as : {A : Type 0} (xs ys : List A) (i j : ℕ) (x : A) → ys ≡ xs → j ≡ i → slice_get ys j ≡ Some x → slice_get xs i ≡ Some x
+told_as {A} xs ys i j x e k got = rw (← e, ← k) got

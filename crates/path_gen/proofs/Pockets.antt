@@ -1,9 +1,9 @@
 -- The blocks of a pocket.
-use Rattle.std.proofs.Common.{◌≡◌, ◌∙◌, sym, ap, subst, refl, arith, ℕ, suc, ℤ, ◌+◌, ◌-◌, ◌*◌, ◌/◌, ◌%◌, ◌<◌, ◌≤◌, List, [], ◌∷◌, ◌++◌, length, length-append, Some}
+use Rattle.std.proofs.Common.{◌≡◌, ◌∙◌, sym, ap, subst, refl, arith, ℕ, zero, suc, ℤ, ◌+◌, ◌-◌, ◌*◌, ◌/◌, ◌%◌, ◌<◌, ◌≤◌, List, [], ◌∷◌, ◌++◌, length, length-append, Some}
 use Rattle.std.specs.Prelude.{slice_get}
 use Rattle.std.specs.List.{flat_map}
 use Rattle.path_blocks.specs.declared.block.Block.{Block}
-use Rattle.path_blocks.specs.declared.block.Block.TheVariants.{Tool}
+use Rattle.path_blocks.specs.declared.block.Block.TheVariants.{Tool, Feed}
 use Rattle.path_blocks.specs.Numbers.{Numbers, levels}
 use Rattle.path_blocks.specs.PathPocket.{Rectangle, down_from, innermost, path_pocket, pocket_level, rapid_over, ring, rings, round}
 use Rattle.path_blocks.proofs.Lengths.{length_pieces, length-down_from, length-pocket_level}
@@ -86,3 +86,18 @@ unfolding path_pocket
 path_end d r radial i last e here =
     of_second (Tool d.tool d.spindle ∷ rapid_over d.sec (ring r radial (innermost r radial)) ∷ []) (flat_map (pocket_level d r radial) (levels d) ++ rapid_over d.sec r ∷ []) i (i - 2) (omega (arith, e, here, path_length d r radial))
     ∙ of_second (flat_map (pocket_level d r radial) (levels d)) (rapid_over d.sec r ∷ []) (i - 2) 0 (omega (arith, e, here, path_length d r radial))
+
+-- ---- a ring
+
+-- once round a rectangle begins and ends at its lower left
+pub corner_home : (d : Numbers) (r : Rectangle) (z : ℤ) (i : ℕ) → i < 5 → (i ≡ 1 → ⊥) → (i ≡ 2 → ⊥) → (i ≡ 3 → ⊥) → slice_get (round d z r) i ≡ Some (Feed r.left r.low z d.feed)
+corner_home d r z zero h a b c = refl
+corner_home d r z (suc zero) h a b c = absurd (a refl)
+corner_home d r z (suc (suc zero)) h a b c = absurd (b refl)
+corner_home d r z (suc (suc (suc zero))) h a b c = absurd (c refl)
+corner_home d r z (suc (suc (suc (suc zero)))) h a b c = refl
+corner_home d r z (suc (suc (suc (suc (suc i))))) h a b c = absurd (omega (arith, h))
+
+-- a feed, told in two ways
+pub feed_told : (b : Block) (x y z f x' y' z' : ℤ) → b ≡ Feed x' y' z' f → x' ≡ x → y' ≡ y → z' ≡ z → Some (Feed x y z f) ≡ Some b
+feed_told b x y z f x' y' z' e p q r = rw (e, p, q, r) refl

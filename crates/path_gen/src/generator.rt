@@ -1,9 +1,9 @@
 //! The path of a definition, block by block.
 
-ghost use Rattle.std.specs.Prelude.{◌≡◌, ◌≤◌, ◌<◌, ◌+◌, ◌++◌, ◌↔◌, IsNone, Some, length, slice_get};
+ghost use Rattle.std.specs.Prelude.{◌≡◌, ◌≤◌, ◌<◌, ◌+◌, ◌∷◌, [], ◌++◌, ◌↔◌, IsNone, IfSome, Some, length, slice_get};
 ghost use Rattle.path_blocks.specs.Path.{path_of};
 ghost use Rattle.path_blocks.specs.Place.{IsAtEnd, ahead, behind, onward, start};
-ghost use Rattle.path_gen.specs.declared.generator.Filled.TheVariants.{Whole, More};
+ghost use Rattle.path_gen.specs.declared.generator.Filled.TheVariants.{Whole};
 
 use crate::{face, hole, pocket};
 use path_blocks::{Block, Def, PlanPart, Shape};
@@ -52,44 +52,8 @@ fn block_at(def: &Def, count: u32, index: u32) -> Block
     let last = u64::from(count) - 1;
     match def.shape {
         Shape::Drill { x, y, dwell } => hole::block(def, x, y, dwell, index),
-        Shape::Plane {
-            x,
-            y,
-            ux,
-            uy,
-            length,
-            width,
-            step,
-            both,
-        } => {
-            let facing = Facing {
-                x,
-                y,
-                ux,
-                uy,
-                length,
-                width,
-                step,
-                both,
-            };
-            face::block(def, &facing, last, index)
-        }
-        Shape::Pocket {
-            left,
-            low,
-            right,
-            high,
-            radial,
-        } => {
-            let inset = Inset {
-                left,
-                low,
-                right,
-                high,
-                radial,
-            };
-            pocket::block(def, &inset, last, index)
-        }
+        Shape::Plane { .. } => face::block(def, &Facing::of(def), last, index),
+        Shape::Pocket { .. } => pocket::block(def, &Inset::of(def), last, index),
     }
 }
 
@@ -122,7 +86,8 @@ impl Gen {
 
     /// How many blocks are still to come.
     pub fn left(&self) -> u32
-        ensures { result ≡ length (ahead self.now) }
+        ensures exact { result ≡ length (ahead self.now) }
+        ensures joined { self.now.given + result ≡ length (path_of self.now.def) }
     {
         self.count - self.next
     }
@@ -139,16 +104,49 @@ impl Gen {
         }
     }
 
-    /// Hands out the next block, or None exactly at the path's end.
+    /// Hands out the next block, which there is.
+    fn give(&mut self) -> Block
+        requires { self.old.given < length (path_of self.old.def) }
+        ensures exact { slice_get (path_of self.old.def) self.old.given ≡ Some result }
+        ensures moves { self.new ≡ onward self.old 1 }
+    {
+        let block = block_at(&self.definition, self.count, self.next);
+        self.next += 1;
+        block
+    }
+
+    /// Hands out the next block, or None exactly at the path's end. What was handed out before, the block, and what is still to come
+    /// make up the path.
     pub fn next(&mut self) -> Option<Block>
         ensures exact { result ≡ slice_get (path_of self.old.def) self.old.given }
         ensures end { IsNone result ↔ IsAtEnd self.old }
         ensures moves { self.new ≡ onward self.old 1 }
+        ensures handed { IfSome result (λ block. behind self.new ≡ behind self.old ++ block ∷ []) }
+        ensures rest { IfSome result (λ block. ahead self.old ≡ block ∷ ahead self.new) }
     {
-        let block = self.peek();
-        if block.is_some() {
-            self.next += 1;
+        if self.next < self.count {
+            Some(self.give())
+        } else {
+            None
         }
-        block
+    }
+
+    /// Puts the next `most` blocks, or all that are left where these are fewer, to the blocks of a plan that were made so far. It
+    /// answers `Filled::Whole` exactly where the path is complete then, else `Filled::More`.
+    pub fn fill(&mut self, part: &mut PlanPart, most: u32) -> Filled
+        requires some { 1 ≤ most }
+        requires together { self.old ≡ part.old }
+        ensures moves { self.new ≡ onward self.old most }
+        ensures part { part.new ≡ onward part.old most }
+        ensures whole { (result ≡ Whole) ↔ IsAtEnd part.new }
+    {
+        for _ in 0..most.min(self.left()) {
+            part.push(self.give());
+        }
+        if self.left() == 0 {
+            Filled::Whole
+        } else {
+            Filled::More
+        }
     }
 }

@@ -16,6 +16,7 @@
 mod face;
 mod generator;
 mod hole;
+pub mod laws;
 mod pocket;
 mod tool;
 
