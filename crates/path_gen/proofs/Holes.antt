@@ -1,5 +1,5 @@
 -- The blocks of a drilled hole.
-use Rattle.std.proofs.Common.{◌≡◌, ◌∙◌, sym, ap, refl, arith, ℕ, ◌-◌, ℤ, pos, true, false, List, [], ◌∷◌, ◌++◌, Some}
+use Rattle.std.proofs.Common.{◌≡◌, ◌∙◌, sym, ap, refl, arith, ℕ, ◌-◌, ℤ, pos, true, false, List, ◌++◌, Some}
 use Rattle.std.specs.Prelude.{slice_get, int_lt, int_le}
 use Rattle.std.proofs.lemmas.Int.{ints}
 use Rattle.path_blocks.specs.declared.block.Block.{Block}

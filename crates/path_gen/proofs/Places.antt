@@ -1,10 +1,9 @@
 -- The blocks before and after a place.
-use Rattle.std.proofs.Common.{◌≡◌, ◌∙◌, sym, ap, subst, arith, ℕ, zero, suc, ◌+◌, ◌<◌, ◌≤◌, min, List, [], ◌∷◌, ◌++◌, length, take, drop, Some, None}
+use Rattle.std.proofs.Common.{◌≡◌, ◌∙◌, sym, ap, arith, ℕ, zero, suc, ◌+◌, ◌<◌, ◌≤◌, List, [], ◌∷◌, ◌++◌, length, drop, Some, None}
 use Rattle.std.specs.Prelude.{slice_get}
 use Rattle.std.proofs.lemmas.List.{take_more}
 use Rattle.std.proofs.lemmas.Option.{same_Some, slice_get_within, slice_get_past, get_or_from_slice_get}
 use Rattle.path_blocks.specs.declared.block.Block.{Block}
-use Rattle.path_blocks.specs.declared.def.Def.{Def}
 use Rattle.path_blocks.specs.Path.{path_of}
 use Rattle.path_blocks.specs.Place.{Place, ahead, behind, onward}
 

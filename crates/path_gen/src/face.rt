@@ -77,7 +77,13 @@ fn levels_block(def: &Def, facing: &Facing, index: u64) -> Block
 {
     let row_count = facing.row_count();
     let each = 2 + 2 * row_count;
-    level_block(def, facing, def.level(index / each), row_count, index % each)
+    level_block(
+        def,
+        facing,
+        def.level(index / each),
+        row_count,
+        index % each,
+    )
 }
 
 /// The block with this index, counted from 0, of the path of a face. The last block has the index `last`.

@@ -13,7 +13,6 @@ ghost use Rattle.path_plane.specs.Facing.{face_of};
 mod facing;
 
 pub use facing::Facing;
-
 use nc_base::NoMemory;
 use path_blocks::{Block, Def, Plan};
 use std::alloc::Global;

@@ -14,7 +14,6 @@ ghost use Rattle.path_pocket.specs.Inset.{rectangle_between, rectangle_of};
 mod inset;
 
 pub use inset::{Corners, Inset};
-
 use nc_base::NoMemory;
 use path_blocks::{Block, Def, Plan};
 use std::alloc::Global;

@@ -1,4 +1,4 @@
-use Rattle.std.proofs.Common.{◌≡◌, ◌∙◌, ◌<◌, ◌-◌, sym, ap, length, arith, rules, w64, to_z, of_z, FitsSigned, Some}
+use Rattle.std.proofs.Common.{◌≡◌, ◌∙◌, sym, ap, arith, rules, w64, to_z, of_z, FitsSigned, Some}
 use Rattle.std.proofs.lemmas.Int.{to_z-of_z}
 use Rattle.path_blocks.specs.declared.block.Block.{Block}
 use Rattle.path_blocks.specs.Numbers.{numbers_of}

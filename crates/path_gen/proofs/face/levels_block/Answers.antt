@@ -1,4 +1,4 @@
-use Rattle.std.proofs.Common.{◌≡◌, ◌∙◌, sym, ap, ℤ, ◌+◌, ◌*◌, ◌%◌, ◌<◌, arith, rules, w64, FitsSigned}
+use Rattle.std.proofs.Common.{◌∙◌, sym, ap, ℤ, ◌+◌, ◌*◌, ◌%◌, arith, rules, w64, FitsSigned}
 use Rattle.std.specs.Prelude.{slice_get}
 use Rattle.std.proofs.lemmas.Int.{to_z-of_z}
 use Rattle.std.proofs.Math.Nat.{mod-lt}

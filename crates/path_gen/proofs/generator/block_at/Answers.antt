@@ -1,4 +1,4 @@
-use Rattle.std.proofs.Common.{◌≡◌, ◌∙◌, arith, rules, w64, to_z, of_z, FitsSigned}
+use Rattle.std.proofs.Common.{◌≡◌, arith, rules, w64, to_z, of_z, FitsSigned}
 use Rattle.std.proofs.lemmas.Int.{to_z-of_z}
 use Rattle.path_blocks.specs.Numbers.{numbers_of}
 use Rattle.path_blocks.specs.Path.{path_of}

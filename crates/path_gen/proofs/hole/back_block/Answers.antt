@@ -1,4 +1,4 @@
-use Rattle.std.proofs.Common.{◌≡◌, ◌∙◌, ◌-◌, w64, to_z, of_z}
+use Rattle.std.proofs.Common.{◌∙◌, ◌-◌, w64, to_z, of_z}
 use Rattle.std.proofs.lemmas.Int.{to_z-of_z}
 use Rattle.path_blocks.specs.Numbers.{numbers_of}
 use Rattle.path_blocks.specs.PathDrill.{up_from}

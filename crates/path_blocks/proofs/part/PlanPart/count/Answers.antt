@@ -1,4 +1,4 @@
-use Rattle.std.proofs.Common.{arith, ℕ, ◌≡◌, ◌≤◌}
+use Rattle.std.proofs.Common.{arith}
 use Rattle.path_blocks.proofs.PartLemmas.{made_within, length_few}
 use Rattle.path_blocks.proofs.part.PlanPart.count.Goals as goal
 
