@@ -1,8 +1,8 @@
 -- The blocks before and after a place.
-use Rattle.std.proofs.Common.{◌≡◌, ◌∙◌, sym, ap, arith, ℕ, zero, suc, ◌+◌, ◌<◌, ◌≤◌, List, [], ◌∷◌, ◌++◌, length, drop, Some, None}
+use Rattle.std.proofs.Common.{◌≡◌, ◌∙◌, sym, ap, arith, ℕ, zero, suc, ◌+◌, ◌<◌, List, [], ◌∷◌, ◌++◌, length, drop, Some}
 use Rattle.std.specs.Prelude.{slice_get}
 use Rattle.std.proofs.lemmas.List.{take_more}
-use Rattle.std.proofs.lemmas.Option.{same_Some, slice_get_within, slice_get_past, get_or_from_slice_get}
+use Rattle.std.proofs.lemmas.Option.{same_Some, slice_get_within, get_or_from_slice_get}
 use Rattle.path_blocks.specs.declared.block.Block.{Block}
 use Rattle.path_blocks.specs.Path.{path_of}
 use Rattle.path_blocks.specs.Place.{Place, ahead, behind, onward}
@@ -32,7 +32,3 @@ ahead_less p q b got e =
     drop_at (path_of p.def) p.given b got
     ∙ ap (λ (n : ℕ). b ∷ drop n (path_of p.def)) one_on
     ∙ ap (λ (r : Place). b ∷ ahead r) (sym (next_given p q b got e))
-
--- nothing comes at the end
-pub none_past : (p : Place) → length (path_of p.def) ≤ p.given → None ≡ slice_get (path_of p.def) p.given
-none_past p h = sym (slice_get_past (path_of p.def) p.given h)

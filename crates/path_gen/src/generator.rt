@@ -21,7 +21,7 @@ pub enum Filled {
 }
 
 /// The path of a definition, handed out block by block from its beginning to its end. Contracts see how far along the path it is.
-#[derive(Clone, Copy)]
+#[derive(Clone, Copy, Debug)]
 pub struct Gen {
     definition: Def,
     next: u32,
@@ -124,11 +124,10 @@ impl Gen {
         ensures handed { IfSome result (λ block. behind self.new ≡ behind self.old ++ block ∷ []) }
         ensures rest { IfSome result (λ block. ahead self.old ≡ block ∷ ahead self.new) }
     {
-        if self.next < self.count {
-            Some(self.give())
-        } else {
-            None
+        if self.next == self.count {
+            return None;
         }
+        Some(self.give())
     }
 
     /// Puts the next `most` blocks, or all that are left where these are fewer, to the blocks of a plan that were made so far. It
