@@ -9,6 +9,7 @@ use crate::paths::expect_text;
 use crate::pockets::{self, POCKET, POCKET_PATH};
 use nc_base::NoMemory;
 use path_blocks::{Block, Def, Plan, PlanPart};
+use path_gen::laws::pieces_join;
 use path_gen::{Filled, Gen};
 use std::alloc::Global;
 use std::process::Abort;
@@ -43,6 +44,15 @@ fn by_fill(alloc: Global, def: &Def, most: u32) -> Result<(Plan, u32), NoMemory>
         }
     }
     Err(NoMemory)
+}
+
+// The plan with the first block of its path alone.
+fn first_block(alloc: Global, def: &Def) -> Result<PlanPart, NoMemory> {
+    let mut part = PlanPart::new(alloc, *def)?;
+    if let Some(block) = Gen::new(def).peek() {
+        part.push(block);
+    }
+    Ok(part)
 }
 
 // What the first call answers, and how many blocks there are then.
@@ -150,4 +160,23 @@ fn a_path_is_whole_with_its_last_block(rt: HostRuntime) -> Result<(), Fail> {
         Ok((Filled::Whole, 15)),
     );
     Ok(())
+}
+
+#[test]
+fn a_path_keeps_its_place(rt: HostRuntime) {
+    let mut path = Gen::new(&POCKET);
+    path.next();
+    path.next();
+    pieces_join(&path);
+    expect(&rt, *path.def(), POCKET);
+    expect(&rt, path.given(), 2);
+    expect(&rt, path.left(), 13);
+}
+
+#[test]
+fn a_plan_is_made_block_by_block(rt: HostRuntime) -> Result<(), Fail> {
+    let part = first_block(rt.alloc(), &POCKET)?;
+    expect(&rt, *part.def(), POCKET);
+    expect(&rt, part.count(), 1);
+    expect_text(&rt, rt.alloc(), part.blocks(), "T 44 20000\n")
 }
