@@ -209,7 +209,7 @@ at_most [] b h = omega arith
 at_most (x ∷ a) [] h = absurd (let e : x ∷ a ≡ [] = h refl in cc)
 at_most (x ∷ a) (y ∷ b) h = omega arith
 
-going_at_most : (es : Execs) (t : List Entry) → ApartAll es → EachPart es t → going es t ≤ going es []
+pub going_at_most : (es : Execs) (t : List Entry) → ApartAll es → EachPart es t → going es t ≤ going es []
 going_at_most None_left t d p = omega arith
 going_at_most (Then e es) t d p =
     let u : List Entry = only (nodes e) t in

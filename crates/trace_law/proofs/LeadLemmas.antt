@@ -51,7 +51,7 @@ mutual
   void_stands c (If n a b) v h = absurd (cc)
   void_stands c (While n a) v h = absurd (cc)
 
-  void_in_order : (c : ℕ → Cell) (es : Execs) → NoPicksAll c es → next_in_order es [] ≡ [] → StandsInOrder c es []
+  pub void_in_order : (c : ℕ → Cell) (es : Execs) → NoPicksAll c es → next_in_order es [] ≡ [] → StandsInOrder c es []
   void_in_order c None_left v h = tt
   void_in_order c (Then e es) v h =
       let z = first_empty (next e []) (next_in_order es []) h in

@@ -1,0 +1,5 @@
+pub mod OutsideLemmas
+pub mod BringLemmas
+pub mod ReachLemmas
+pub mod ElementLemmas
+pub mod UpLemmas

@@ -1,0 +1,6 @@
+use Rattle.trace_law.proofs.StepLemmas.{apart}
+use Rattle.frame_law.proofs.BringLemmas.{brought}
+use Rattle.frame_law.proofs.laws.what_comes_in_at_a_node.Goals as goal
+
+pub returns : goal.returns
+returns g = λ e x k m c d n. brought c e x k m d n
