@@ -1,8 +1,10 @@
 -- What is written on the way up from a node that is over.
-use Rattle.std.specs.Prelude.{◌≡◌, ◌==◌, ◌-◌, if◌then◌else◌, ℕ, Bool, true, false, List, [], ◌∷◌, length}
-use Rattle.exec_tree.specs.Exec.{Exec, Work, Leaf, Plan, Par, NonSeq, Sel, If, While, Execs, None_left, Then, nodes, nodes_all, has}
+use Rattle.std.specs.Prelude.{◌≡◌, ◌==◌, ◌-◌, if◌then◌else◌, ℕ, Bool, true, false, List, [], ◌∷◌, ◌++◌, length, Some}
+use Rattle.exec_tree.specs.Exec.{Exec, Work, Leaf, Plan, Par, NonSeq, Sel, If, While, Execs, None_left, Then, nodes, nodes_all, has, AreDistinct}
+use Rattle.trace_law.specs.Of.{number_of}
+use Rattle.trace_law.specs.Part.{Part}
 use Rattle.trace_law.specs.Cells.{Cell, Picked, Left, picked, next_by, WhereTrue}
-use Rattle.trace_law.specs.Frames.{left, StandsInOrder, Goes}
+use Rattle.trace_law.specs.Frames.{left, Stands, StandsInOrder, Goes}
 use Rattle.run_log.specs.declared.entry.Entry.{Entry}
 use Rattle.frame_law.specs.Onward.{Onward, Done, Opens, Joins, PicksOn, TestsAgain}
 
@@ -31,6 +33,13 @@ pub record Writes (c : ℕ → Cell) (f : Exec) (k : Onward) (x : Entry) (c' : �
   pub goes : Goes c f x c'
   pub ran : next_by c' f ≡ [] → Ran c c' k
   pub kept : (q : ℕ) → has (nodes f) q ≡ false → (next_by c' f ≡ [] → has (touched c k) q ≡ false) → c' q ≡ c q
+
+-- the frames c stand for t, a run of e so far, and the entry x, which is of node m, goes on from there
+pub record Follows (c : ℕ → Cell) (e : Exec) (t : List Entry) (x : Entry) (m : ℕ) : Type 0 where
+  pub distinct : AreDistinct (nodes e)
+  pub part : Part e (t ++ x ∷ [])
+  pub stands : Stands c e t
+  pub number : number_of x ≡ Some m
 
 -- each non-sequential without elements has no picks
 abbrev mutual

@@ -3,21 +3,27 @@
 ghost use Rattle.std.specs.Prelude.{◌≡◌, ℕ, List, [], ◌∷◌, ◌++◌, Some};
 ghost use Rattle.exec_tree.specs.Exec.{Exec, nodes, AreDistinct};
 ghost use Rattle.trace_law.specs.Of.{number_of};
-ghost use Rattle.trace_law.specs.Part.{Part};
+ghost use Rattle.trace_law.specs.Next.{next};
 ghost use Rattle.trace_law.specs.Cells.{Cell};
-ghost use Rattle.trace_law.specs.Coming.{came};
+ghost use Rattle.trace_law.specs.Coming.{came, Changes};
 ghost use Rattle.trace_law.specs.Frames.{Stands, Goes};
 ghost use Rattle.run_log.specs.declared.entry.Entry.{Entry};
 ghost use Rattle.frame_law.specs.Executable.{executable_at};
 ghost use Rattle.frame_law.specs.Onward.{Onward, Done, onward, brings};
-ghost use Rattle.frame_law.specs.Way.{Writes, AreUnpicked};
+ghost use Rattle.frame_law.specs.Way.{Follows, Writes, AreUnpicked};
 
-/// What comes in by an entry is told at its own node, by what the node is and where the run goes on from it.
+/// What comes in by an entry is told at its own node: by what the node is, and where the run goes on from it.
 pub fn what_comes_in_at_a_node()
     ensures { (e : Exec) (x : Entry) (k : Onward) (m : ℕ) (c : ℕ → Cell) → AreDistinct (nodes e) → number_of x ≡ Some m → came c e x (brings c k) ≡ came c (executable_at e m) x (brings c (onward e k m)) }
 {}
 
-/// Where an entry's own node has gone, and where it is over the way up from it too, and no other cell is written, the frames of the whole tree have gone.
+/// Where an entry's own node has gone, where that is over the way up from it too, and no other cell is written, the frames of the whole tree have gone.
 pub fn frames_go_up()
-    ensures { (e : Exec) (t : List Entry) (x : Entry) (m : ℕ) (c c' : ℕ → Cell) → AreDistinct (nodes e) → Part e (t ++ x ∷ []) → Stands c e t → number_of x ≡ Some m → AreUnpicked c' e → Writes c (executable_at e m) (onward e Done m) x c' → Goes c e x c' }
+    ensures { (e : Exec) (t : List Entry) (x : Entry) (m : ℕ) (c c' : ℕ → Cell) → Follows c e t x m → AreUnpicked c' e → Writes c (executable_at e m) (onward e Done m) x c' → Goes c e x c' }
+{}
+
+/// Both together: the frames then stand for the run with the entry, and the nodes where it can go on have changed as the entry's own node tells.
+pub fn frames_stand_by_a_node()
+    ensures stands { (e : Exec) (t : List Entry) (x : Entry) (m : ℕ) (c c' : ℕ → Cell) → Follows c e t x m → AreUnpicked c' e → Writes c (executable_at e m) (onward e Done m) x c' → Stands c' e (t ++ x ∷ []) }
+    ensures came { (e : Exec) (t : List Entry) (x : Entry) (m : ℕ) (c : ℕ → Cell) → Follows c e t x m → Changes (next e t) (next e (t ++ x ∷ [])) m (came c (executable_at e m) x (brings c (onward e Done m))) }
 {}

@@ -2,4 +2,5 @@
 //! at an entry's own node and on the way up from it. The definitions stand in specs/; the functions of `laws` carry the laws.
 #![tactic(auto)]
 
+pub mod kinds;
 pub mod laws;

@@ -1,4 +1,3 @@
-use Rattle.trace_law.proofs.StepLemmas.{apart}
 use Rattle.frame_law.proofs.BringLemmas.{brought}
 use Rattle.frame_law.proofs.laws.what_comes_in_at_a_node.Goals as goal
 

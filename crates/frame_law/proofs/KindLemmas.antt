@@ -1,0 +1,59 @@
+-- What stands, and what comes in, once an entry's own node is known.
+use Rattle.std.specs.Prelude.{◌≡◌, ℕ, true, List, [], ◌∷◌, ◌++◌}
+use Rattle.std.proofs.Common.{refl, sym, ◌∙◌, ap, subst}
+use Rattle.exec_tree.specs.Exec.{Exec, Sel, Execs, nodes, has, AreDistinct}
+use Rattle.trace_law.specs.Next.{next}
+use Rattle.trace_law.specs.Cells.{Cell, picked, next_by}
+use Rattle.trace_law.specs.Coming.{came, Changes}
+use Rattle.trace_law.specs.Frames.{Stands, Goes}
+use Rattle.run_log.specs.declared.entry.Entry.{Entry}
+use Rattle.run_log.specs.declared.entry.Entry.TheVariants.{Pick}
+use Rattle.trace_law.proofs.StepLemmas.{apart, next_has}
+use Rattle.trace_law.proofs.StepForthLemmas.{step_of}
+use Rattle.trace_law.proofs.FrameNextLemmas.{next_from_frames}
+use Rattle.trace_law.proofs.FrameMoveLemmas.{stands_step}
+use Rattle.trace_law.proofs.ArriveLemmas.{comes_last}
+use Rattle.frame_law.specs.Executable.{executable_at}
+use Rattle.frame_law.specs.Onward.{Onward, Done, onward, brings}
+use Rattle.frame_law.specs.Way.{Follows, Writes, AreUnpicked}
+use Rattle.frame_law.proofs.OutsideLemmas.{has_number}
+use Rattle.frame_law.proofs.BringLemmas.{brought}
+use Rattle.frame_law.proofs.UpLemmas.{up}
+use Rattle.frame_law.proofs.ChosenLemmas.{by_node, unchosen, found_distinct}
+
+pub goes_up : (c c' : ℕ → Cell) (e : Exec) (t : List Entry) (x : Entry) (m : ℕ) → Follows c e t x m → AreUnpicked c' e → Writes c (executable_at e m) (onward e Done m) x c' → Goes c e x c'
+goes_up c c' e t x m f v w = let z = step_of e t x (apart e f.distinct) f.part in (up c c' e t x Done m f.distinct z.0 z.1 f.stands f.number v (λ i h. refl) w).0
+
+pub stands_after : (c c' : ℕ → Cell) (e : Exec) (t : List Entry) (x : Entry) (m : ℕ) → Follows c e t x m → AreUnpicked c' e → Writes c (executable_at e m) (onward e Done m) x c' → Stands c' e (t ++ x ∷ [])
+stands_after c c' e t x m f v w =
+    let d = apart e f.distinct in
+    let z = step_of e t x d f.part in
+    stands_step c c' e t x d z.0 z.1 f.stands (goes_up c c' e t x m f v w)
+
+pub comes_after : (c : ℕ → Cell) (e : Exec) (t : List Entry) (x : Entry) (m : ℕ) → Follows c e t x m → Changes (next e t) (next e (t ++ x ∷ [])) m (came c (executable_at e m) x (brings c (onward e Done m)))
+comes_after c e t x m f =
+    let d = apart e f.distinct in
+    let z = step_of e t x d f.part in
+    subst (λ (l : List ℕ). Changes (next e t) (next e (t ++ x ∷ [])) m l) (brought c e x Done m f.distinct f.number) (comes_last c e t x m d z.0 z.1 f.stands f.number)
+
+-- where the node is known
+pub stands_as : (c c' : ℕ → Cell) (e : Exec) (t : List Entry) (x : Entry) (m : ℕ) (node : Exec) → Follows c e t x m → AreUnpicked c' e → executable_at e m ≡ node → Writes c node (onward e Done m) x c' → Stands c' e (t ++ x ∷ [])
+stands_as c c' e t x m node f v h w = stands_after c c' e t x m f v (subst (λ (g : Exec). Writes c g (onward e Done m) x c') (sym h) w)
+
+pub comes_as : (c : ℕ → Cell) (e : Exec) (t : List Entry) (x : Entry) (m : ℕ) (node : Exec) (l : List ℕ) → Follows c e t x m → executable_at e m ≡ node → came c node x (brings c (onward e Done m)) ≡ l → Changes (next e t) (next e (t ++ x ∷ [])) m l
+comes_as c e t x m node l f h g =
+    subst (λ (u : List ℕ). Changes (next e t) (next e (t ++ x ∷ [])) m u) (ap (λ (z : Exec). came c z x (brings c (onward e Done m))) h ∙ g) (comes_after c e t x m f)
+
+pub distinct_as : (c : ℕ → Cell) (e : Exec) (t : List Entry) (x : Entry) (m : ℕ) (node : Exec) → Follows c e t x m → executable_at e m ≡ node → AreDistinct (nodes node)
+distinct_as c e t x m node f h = subst (λ (g : Exec). AreDistinct (nodes g)) h (found_distinct e m f.distinct)
+
+-- the run can go on at the node, by its own frame
+pub next_as : (c : ℕ → Cell) (e : Exec) (t : List Entry) (x : Entry) (m : ℕ) (node : Exec) → Follows c e t x m → executable_at e m ≡ node → has (next_by c node) m ≡ true
+next_as c e t x m node f h =
+    let d = apart e f.distinct in
+    let z = step_of e t x d f.part in
+    let on = ap (λ (l : List ℕ). has l m) (next_from_frames c e t d z.0 f.stands) in
+    subst (λ (g : Exec). has (next_by c g) m ≡ true) h (by_node c e m f.distinct (sym on ∙ has_number (next e t) x m _ f.number (next_has e t x z.0 z.1)))
+
+pub unchosen_as : (c : ℕ → Cell) (e : Exec) (t : List Entry) (x : Entry) (m : ℕ) (es : Execs) → Follows c e t x m → executable_at e m ≡ Sel m es → picked (c m) ≡ []
+unchosen_as c e t x m es f h = unchosen c m es (distinct_as c e t x m (Sel m es) f h).0 (next_as c e t x m (Sel m es) f h)
