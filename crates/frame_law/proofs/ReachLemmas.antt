@@ -155,7 +155,7 @@ picks_reaches c c' n es k l b e kept (inr r) = inr (λ g. r.0 (first_empty_left 
 
 -- ---- the body of a while
 
-two_some : (l : List ℕ) (n : ℕ) → first_of_two l (n ∷ []) ≡ [] → ⊥
+pub two_some : (l : List ℕ) (n : ℕ) → first_of_two l (n ∷ []) ≡ [] → ⊥
 two_some [] n e = some n [] e
 two_some (m ∷ l) n e = some m l e
 
