@@ -23,28 +23,13 @@ joined_brings : (c : ℕ → Cell) (b : Bool) (n : ℕ) (k : Onward) → (if b t
 joined_brings c true n k = refl
 joined_brings c false n k = refl
 
--- by an entry of another executable nothing comes in
-none_in_order : (c : ℕ → Cell) (es : Execs) (x : Entry) (m : ℕ) (out : List ℕ) → number_of x ≡ Some m → has (nodes_all es) m ≡ false → came_in_order c es x out ≡ []
-none_in_order c None_left x m out s h = refl
-none_in_order c (Then e es) x m out s h =
-    rw (of_number (nodes e) x m s, no_left (nodes e) (nodes_all es) m h) (none_in_order c es x m out s (no_right (nodes e) (nodes_all es) m h))
+plan_brings : (c : ℕ → Cell) (n : Option ℕ) (es : Execs) (x : Entry) (k : Onward) (m : ℕ) → came_in_order c es x (brings c k) ≡ came c (executable_among es m) x (brings c (onward_in_order es k m)) → (own : Bool) → came c (Plan n es) x (brings c k) ≡ came c (if own then Plan n es else executable_among es m) x (brings c (if own then k else onward_in_order es k m))
+plan_brings c n es x k m rec true = refl
+plan_brings c n es x k m rec false = rec
 
-none_among : (c : ℕ → Cell) (es : Execs) (x : Entry) (m : ℕ) (out : List ℕ) → number_of x ≡ Some m → has (nodes_all es) m ≡ false → came_among c es x out ≡ []
-none_among c None_left x m out s h = refl
-none_among c (Then e es) x m out s h =
-    rw (of_number (nodes e) x m s, no_left (nodes e) (nodes_all es) m h) (none_among c es x m out s (no_right (nodes e) (nodes_all es) m h))
-
-plan_brings : (c : ℕ → Cell) (n : Option ℕ) (es : Execs) (x : Entry) (k : Onward) (m : ℕ) → AreDistinct (nodes (Plan n es)) → number_of x ≡ Some m → came_in_order c es x (brings c k) ≡ came c (executable_among es m) x (brings c (onward_in_order es k m)) → (b : Bool) → has (number_or_none n) m ≡ b → came_in_order c es x (brings c k) ≡ came c (if b then Plan n es else executable_among es m) x (brings c (onward_in_order es k m))
-plan_brings c n es x k m d s rec true e =
-    let out : has (nodes_all es) m ≡ false = distinct_across (number_or_none n) (nodes_all es) m d e in
-    none_in_order c es x m _ s out ∙ sym (none_in_order c es x m _ s out)
-plan_brings c n es x k m d s rec false e = rec
-
-par_brings : (c : ℕ → Cell) (n : ℕ) (es : Execs) (x : Entry) (k : Onward) (m : ℕ) → AreDistinct (nodes (Par n es)) → number_of x ≡ Some m → (let j : Onward = joined_or (is_shared es) n k in came_among c es x (brings c j) ≡ came c (executable_among es m) x (brings c (onward_among es j m))) → (b : Bool) → (n == m) ≡ b → came c (Par n es) x (brings c k) ≡ came c (if b then Par n es else executable_among es m) x (brings c (onward_among es (joined_or (is_shared es) n k) m))
-par_brings c n es x k m d s rec true e =
-    let out : has (nodes_all es) m ≡ false = distinct_across (n ∷ []) (nodes_all es) m d (rw e refl) in
-    none_among c es x m _ s out ∙ sym (none_among c es x m _ s out)
-par_brings c n es x k m d s rec false e = ap (came_among c es x) (joined_brings c (is_shared es) n k) ∙ rec
+par_brings : (c : ℕ → Cell) (n : ℕ) (es : Execs) (x : Entry) (k : Onward) (m : ℕ) → (let j : Onward = joined_or (is_shared es) n k in came_among c es x (brings c j) ≡ came c (executable_among es m) x (brings c (onward_among es j m))) → (own : Bool) → came c (Par n es) x (brings c k) ≡ came c (if own then Par n es else executable_among es m) x (brings c (if own then k else onward_among es (joined_or (is_shared es) n k) m))
+par_brings c n es x k m rec true = refl
+par_brings c n es x k m rec false = ap (came_among c es x) (joined_brings c (is_shared es) n k) ∙ rec
 
 picks_brings : (c : ℕ → Cell) (n : ℕ) (es : Execs) (x : Entry) (k : Onward) (m : ℕ) → number_of x ≡ Some m → came_among c es x (brings c (PicksOn n (count es) k)) ≡ came c (executable_among es m) x (brings c (onward_among es (PicksOn n (count es) k) m)) → (b : Bool) → (n == m) ≡ b → came c (NonSeq n es) x (brings c k) ≡ came c (if b then NonSeq n es else executable_among es m) x (brings c (if b then k else onward_among es (PicksOn n (count es) k) m))
 picks_brings c n es x k m s rec true e = refl
@@ -76,27 +61,21 @@ one_brings c e es x k m s first rest true h = rw (of_number (nodes e) x m s, h) 
 one_brings c e es x k m s first rest false h = rw (of_number (nodes e) x m s, h) rest
 
 mutual
-  pub brought : (c : ℕ → Cell) (e : Exec) (x : Entry) (k : Onward) (m : ℕ) → AreDistinct (nodes e) → number_of x ≡ Some m → came c e x (brings c k) ≡ came c (executable_at e m) x (brings c (onward e k m))
-  brought c (Work n) x k m d s = refl
-  brought c (Leaf n l) x k m d s = refl
-  brought c (Plan n es) x k m d s =
-      plan_brings c n es x k m d s (brought_in_order c es x k m (distinct_right (number_or_none n) (nodes_all es) d) s) (has (number_or_none n) m) refl
-  brought c (Par n es) x k m d s = par_brings c n es x k m d s (brought_among c es x (joined_or (is_shared es) n k) m d.1 s) (n == m) refl
-  brought c (NonSeq n es) x k m d s = picks_brings c n es x k m s (brought_among c es x (PicksOn n (count es) k) m d.1 s) (n == m) refl
-  brought c (Sel n es) x k m d s = sel_brings c n es x k m s (brought_among c es x k m d.1 s) (n == m) refl
-  brought c (If n a b) x k m d s =
-      if_brings c n a b x k m _ _ s
-      (either_brings c a b x k m s (brought c a x k m (distinct_left (nodes a) (nodes b) d.1) s) (brought c b x k m (distinct_right (nodes a) (nodes b) d.1) s) (has (nodes a) m) refl)
-      (n == m) refl
-  brought c (While n a) x k m d s = while_brings c n a x k m s (brought c a x (TestsAgain n) m d.1 s) (n == m) refl
+  pub brought : (c : ℕ → Cell) (e : Exec) (x : Entry) (k : Onward) (m : ℕ) → number_of x ≡ Some m → came c e x (brings c k) ≡ came c (executable_at e m) x (brings c (onward e k m))
+  brought c (Work n) x k m s = refl
+  brought c (Leaf n l) x k m s = refl
+  brought c (Plan n es) x k m s = plan_brings c n es x k m (brought_in_order c es x k m s) (has (number_or_none n) m)
+  brought c (Par n es) x k m s = par_brings c n es x k m (brought_among c es x (joined_or (is_shared es) n k) m s) (n == m)
+  brought c (NonSeq n es) x k m s = picks_brings c n es x k m s (brought_among c es x (PicksOn n (count es) k) m s) (n == m) refl
+  brought c (Sel n es) x k m s = sel_brings c n es x k m s (brought_among c es x k m s) (n == m) refl
+  brought c (If n a b) x k m s = if_brings c n a b x k m _ _ s (either_brings c a b x k m s (brought c a x k m s) (brought c b x k m s) (has (nodes a) m) refl) (n == m) refl
+  brought c (While n a) x k m s = while_brings c n a x k m s (brought c a x (TestsAgain n) m s) (n == m) refl
 
-  brought_in_order : (c : ℕ → Cell) (es : Execs) (x : Entry) (k : Onward) (m : ℕ) → AreDistinct (nodes_all es) → number_of x ≡ Some m → came_in_order c es x (brings c k) ≡ came c (executable_among es m) x (brings c (onward_in_order es k m))
-  brought_in_order c None_left x k m d s = refl
-  brought_in_order c (Then e es) x k m d s =
-      first_brings c e es x k m s (brought c e x (opened_or (next_in_order es []) es k) m (distinct_left (nodes e) (nodes_all es) d) s)
-      (brought_in_order c es x k m (distinct_right (nodes e) (nodes_all es) d) s) (has (nodes e) m) refl
+  brought_in_order : (c : ℕ → Cell) (es : Execs) (x : Entry) (k : Onward) (m : ℕ) → number_of x ≡ Some m → came_in_order c es x (brings c k) ≡ came c (executable_among es m) x (brings c (onward_in_order es k m))
+  brought_in_order c None_left x k m s = refl
+  brought_in_order c (Then e es) x k m s =
+      first_brings c e es x k m s (brought c e x (opened_or (next_in_order es []) es k) m s) (brought_in_order c es x k m s) (has (nodes e) m) refl
 
-  brought_among : (c : ℕ → Cell) (es : Execs) (x : Entry) (k : Onward) (m : ℕ) → AreDistinct (nodes_all es) → number_of x ≡ Some m → came_among c es x (brings c k) ≡ came c (executable_among es m) x (brings c (onward_among es k m))
-  brought_among c None_left x k m d s = refl
-  brought_among c (Then e es) x k m d s =
-      one_brings c e es x k m s (brought c e x k m (distinct_left (nodes e) (nodes_all es) d) s) (brought_among c es x k m (distinct_right (nodes e) (nodes_all es) d) s) (has (nodes e) m) refl
+  brought_among : (c : ℕ → Cell) (es : Execs) (x : Entry) (k : Onward) (m : ℕ) → number_of x ≡ Some m → came_among c es x (brings c k) ≡ came c (executable_among es m) x (brings c (onward_among es k m))
+  brought_among c None_left x k m s = refl
+  brought_among c (Then e es) x k m s = one_brings c e es x k m s (brought c e x k m s) (brought_among c es x k m s) (has (nodes e) m) refl

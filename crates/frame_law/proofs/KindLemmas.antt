@@ -4,6 +4,7 @@ use Rattle.std.proofs.Common.{refl, sym, ◌∙◌, ap, subst}
 use Rattle.exec_tree.specs.Exec.{Exec, Sel, Execs, nodes, has, AreDistinct}
 use Rattle.trace_law.specs.Next.{next}
 use Rattle.trace_law.specs.Cells.{Cell, picked, next_by}
+use Rattle.trace_law.specs.Offer.{Offer, IsOffered, offer_by}
 use Rattle.trace_law.specs.Coming.{came, Changes}
 use Rattle.trace_law.specs.Frames.{Stands, Goes}
 use Rattle.run_log.specs.declared.entry.Entry.{Entry}
@@ -11,7 +12,10 @@ use Rattle.run_log.specs.declared.entry.Entry.TheVariants.{Pick}
 use Rattle.trace_law.proofs.StepLemmas.{apart, next_has}
 use Rattle.trace_law.proofs.StepForthLemmas.{step_of}
 use Rattle.trace_law.proofs.FrameNextLemmas.{next_from_frames}
+use Rattle.trace_law.proofs.StepBackLemmas.{step_inside}
 use Rattle.trace_law.proofs.FrameMoveLemmas.{stands_step}
+use Rattle.trace_law.proofs.FrameOfferLemmas.{offer_from_frames}
+use Rattle.trace_law.proofs.OfferExactLemmas.{offers}
 use Rattle.trace_law.proofs.ArriveLemmas.{comes_last}
 use Rattle.frame_law.specs.Executable.{executable_at}
 use Rattle.frame_law.specs.Onward.{Onward, Done, onward, brings}
@@ -20,6 +24,7 @@ use Rattle.frame_law.proofs.OutsideLemmas.{has_number}
 use Rattle.frame_law.proofs.BringLemmas.{brought}
 use Rattle.frame_law.proofs.UpLemmas.{up}
 use Rattle.frame_law.proofs.ChosenLemmas.{by_node, unchosen, found_distinct}
+use Rattle.frame_law.proofs.OfferedLemmas.{offered_at}
 
 pub goes_up : (c c' : ℕ → Cell) (e : Exec) (t : List Entry) (x : Entry) (m : ℕ) → Follows c e t x m → AreUnpicked c' e → Writes c (executable_at e m) (onward e Done m) x c' → Goes c e x c'
 goes_up c c' e t x m f v w = let z = step_of e t x (apart e f.distinct) f.part in (up c c' e t x Done m f.distinct z.0 z.1 f.stands f.number v (λ i h. refl) w).0
@@ -34,7 +39,7 @@ pub comes_after : (c : ℕ → Cell) (e : Exec) (t : List Entry) (x : Entry) (m 
 comes_after c e t x m f =
     let d = apart e f.distinct in
     let z = step_of e t x d f.part in
-    subst (λ (l : List ℕ). Changes (next e t) (next e (t ++ x ∷ [])) m l) (brought c e x Done m f.distinct f.number) (comes_last c e t x m d z.0 z.1 f.stands f.number)
+    subst (λ (l : List ℕ). Changes (next e t) (next e (t ++ x ∷ [])) m l) (brought c e x Done m f.number) (comes_last c e t x m d z.0 z.1 f.stands f.number)
 
 -- where the node is known
 pub stands_as : (c c' : ℕ → Cell) (e : Exec) (t : List Entry) (x : Entry) (m : ℕ) (node : Exec) → Follows c e t x m → AreUnpicked c' e → executable_at e m ≡ node → Writes c node (onward e Done m) x c' → Stands c' e (t ++ x ∷ [])
@@ -57,3 +62,11 @@ next_as c e t x m node f h =
 
 pub unchosen_as : (c : ℕ → Cell) (e : Exec) (t : List Entry) (x : Entry) (m : ℕ) (es : Execs) → Follows c e t x m → executable_at e m ≡ Sel m es → picked (c m) ≡ []
 unchosen_as c e t x m es f h = unchosen c m es (distinct_as c e t x m (Sel m es) f h).0 (next_as c e t x m (Sel m es) f h)
+
+pub offered_as : (c : ℕ → Cell) (e : Exec) (t : List Entry) (x : Entry) (m : ℕ) → Follows c e t x m → IsOffered (offer_by c (executable_at e m) m) m x
+offered_as c e t x m f =
+    let d = apart e f.distinct in
+    let z = step_of e t x d f.part in
+    let there : has (next e t) m ≡ true = has_number (next e t) x m true f.number (next_has e t x z.0 z.1) in
+    subst (λ (o : Offer). IsOffered o m x) (offer_from_frames c e t m d z.0 f.stands there ∙ offered_at c e m (has_number (nodes e) x m true f.number (step_inside e t x f.part)))
+    (offers e t x m d z.0 z.1 f.number)

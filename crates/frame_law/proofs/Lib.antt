@@ -5,4 +5,5 @@ pub mod ElementLemmas
 pub mod UpLemmas
 pub mod NodeLemmas
 pub mod ChosenLemmas
+pub mod OfferedLemmas
 pub mod KindLemmas

@@ -117,9 +117,10 @@ mutual
   pub touched_within : (c : ℕ → Cell) (e : Exec) (k : Onward) (m q : ℕ) → has (nodes e) q ≡ false → has (touched c k) q ≡ false → has (touched c (onward e k m)) q ≡ false
   touched_within c (Work n) k m q h i = i
   touched_within c (Leaf n l) k m q h i = i
-  touched_within c (Plan n es) k m q h i = touched_in_order c es k m q (no_right (number_or_none n) (nodes_all es) q h) i
+  touched_within c (Plan n es) k m q h i = way_either c (has (number_or_none n) m) k _ q i (touched_in_order c es k m q (no_right (number_or_none n) (nodes_all es) q h) i)
   touched_within c (Par n es) k m q h i =
-      touched_among c es (joined_or (is_shared es) n k) m q (not_rest n (nodes_all es) q h) (joined_outside c (is_shared es) n k q (not_first n (nodes_all es) q h) i)
+      way_either c (n == m) k _ q i
+      (touched_among c es (joined_or (is_shared es) n k) m q (not_rest n (nodes_all es) q h) (joined_outside c (is_shared es) n k q (not_first n (nodes_all es) q h) i))
   touched_within c (NonSeq n es) k m q h i =
       way_either c (n == m) k _ q i (touched_among c es (PicksOn n (count es) k) m q (not_rest n (nodes_all es) q h) (picks_outside c n (count es) k q i))
   touched_within c (Sel n es) k m q h i = way_either c (n == m) k _ q i (touched_among c es k m q (not_rest n (nodes_all es) q h) i)

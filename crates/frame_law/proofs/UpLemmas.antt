@@ -166,12 +166,12 @@ mutual
   up c c' (Plan n es) t x k m d p q s num v o w =
       let own : has (number_or_none n) m ≡ false = not_own (number_or_none n) (nodes_all es) x m d num (order_inside es t x q) in
       let z = up_in_order c c' es t x k m (distinct_right (number_or_none n) (nodes_all es) d) p.1 q s num v (outside_right c k (number_or_none n) (nodes_all es) o)
-      (writes_as c c' _ (executable_among es m) _ (onward_in_order es k m) x (chosen_no (has (number_or_none n) m) _ _ own) refl w) in
+      (writes_as c c' _ (executable_among es m) _ (onward_in_order es k m) x (chosen_no (has (number_or_none n) m) _ _ own) (chosen_no (has (number_or_none n) m) _ _ own) w) in
       (z.0, reaches_wider c c' (next_by_order c' es) (nodes_all es) (nodes (Plan n es)) k (λ i h. no_right (number_or_none n) (nodes_all es) i h) z.1)
   up c c' (Par n es) t x k m d p q s num v o w =
       let j : Onward = joined_or (is_shared es) n k in
       let own : has (n ∷ []) m ≡ false = not_own (n ∷ []) (nodes_all es) x m d num (one_inside es t x q) in
-      let u : Writes c (executable_among es m) (onward_among es j m) x c' = writes_as c c' _ (executable_among es m) _ (onward_among es j m) x (chosen_no (n == m) _ _ (not_first n [] m own)) refl w in
+      let u : Writes c (executable_among es m) (onward_among es j m) x c' = writes_as c c' _ (executable_among es m) _ (onward_among es j m) x (chosen_no (n == m) _ _ (not_first n [] m own)) (chosen_no (n == m) _ _ (not_first n [] m own)) w in
       par_up c c' n es t x k m d p q s o u
       (up_among c c' es t x j m d.1 p.1 q s.1 num v (λ i h. joined_outside c (is_shared es) n k i (not_first n [] i (across_back (n ∷ []) (nodes_all es) i d h)) (o i (yes_right (n ∷ []) (nodes_all es) i h))) u)
   up c c' (NonSeq n es) t x k m d p q s num v o w =

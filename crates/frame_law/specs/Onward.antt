@@ -1,6 +1,6 @@
 -- Where a run goes on when a node is over: a fact of the tree, as trace_law's `after` is, but what is opened is said as elements.
 use Rattle.std.specs.Prelude.{◌==◌, if◌then◌else◌, ℕ, Bool, true, false, List, [], ◌∷◌, length}
-use Rattle.exec_tree.specs.Exec.{Exec, Work, Leaf, Plan, Par, NonSeq, Sel, If, While, Execs, None_left, Then, nodes, has, count}
+use Rattle.exec_tree.specs.Exec.{Exec, Work, Leaf, Plan, Par, NonSeq, Sel, If, While, Execs, None_left, Then, nodes, has, number_or_none, count}
 use Rattle.trace_law.specs.Next.{next_in_order}
 use Rattle.trace_law.specs.Cells.{Cell, picked}
 use Rattle.trace_law.specs.Frames.{is_shared, left}
@@ -28,8 +28,8 @@ abbrev mutual
   pub onward : Exec → Onward → ℕ → Onward
   onward (Work n) k m = k
   onward (Leaf n l) k m = k
-  onward (Plan n es) k m = onward_in_order es k m
-  onward (Par n es) k m = onward_among es (joined_or (is_shared es) n k) m
+  onward (Plan n es) k m = if has (number_or_none n) m then k else onward_in_order es k m
+  onward (Par n es) k m = if n == m then k else onward_among es (joined_or (is_shared es) n k) m
   onward (NonSeq n es) k m = if n == m then k else onward_among es (PicksOn n (count es) k) m
   onward (Sel n es) k m = if n == m then k else onward_among es k m
   onward (If n a b) k m = if n == m then k else (if has (nodes a) m then onward a k m else onward b k m)

@@ -1,10 +1,11 @@
 //! Laws of frames by an entry's own node. Each function's contract is the law, and its body is empty.
 
-ghost use Rattle.std.specs.Prelude.{◌≡◌, ℕ, List, [], ◌∷◌, ◌++◌, Some};
-ghost use Rattle.exec_tree.specs.Exec.{Exec, nodes, AreDistinct};
+ghost use Rattle.std.specs.Prelude.{◌≡◌, ℕ, true, List, [], ◌∷◌, ◌++◌, Some};
+ghost use Rattle.exec_tree.specs.Exec.{Exec, has};
 ghost use Rattle.trace_law.specs.Of.{number_of};
 ghost use Rattle.trace_law.specs.Next.{next};
-ghost use Rattle.trace_law.specs.Cells.{Cell};
+ghost use Rattle.trace_law.specs.Offer.{IsOffered, offer_by};
+ghost use Rattle.trace_law.specs.Cells.{Cell, next_by};
 ghost use Rattle.trace_law.specs.Coming.{came, Changes};
 ghost use Rattle.trace_law.specs.Frames.{Stands, Goes};
 ghost use Rattle.run_log.specs.declared.entry.Entry.{Entry};
@@ -14,7 +15,7 @@ ghost use Rattle.frame_law.specs.Way.{Follows, Writes, AreUnpicked};
 
 /// What comes in by an entry is told at its own node: by what the node is, and where the run goes on from it.
 pub fn what_comes_in_at_a_node()
-    ensures { (e : Exec) (x : Entry) (k : Onward) (m : ℕ) (c : ℕ → Cell) → AreDistinct (nodes e) → number_of x ≡ Some m → came c e x (brings c k) ≡ came c (executable_at e m) x (brings c (onward e k m)) }
+    ensures { (e : Exec) (x : Entry) (k : Onward) (m : ℕ) (c : ℕ → Cell) → number_of x ≡ Some m → came c e x (brings c k) ≡ came c (executable_at e m) x (brings c (onward e k m)) }
 {}
 
 /// Where an entry's own node has gone, where that is over the way up from it too, and no other cell is written, the frames of the whole tree have gone.
@@ -26,4 +27,10 @@ pub fn frames_go_up()
 pub fn frames_stand_by_a_node()
     ensures stands { (e : Exec) (t : List Entry) (x : Entry) (m : ℕ) (c c' : ℕ → Cell) → Follows c e t x m → AreUnpicked c' e → Writes c (executable_at e m) (onward e Done m) x c' → Stands c' e (t ++ x ∷ []) }
     ensures came { (e : Exec) (t : List Entry) (x : Entry) (m : ℕ) (c : ℕ → Cell) → Follows c e t x m → Changes (next e t) (next e (t ++ x ∷ [])) m (came c (executable_at e m) x (brings c (onward e Done m))) }
+{}
+
+/// An entry that goes on is what its own node does next, and the node can go on, by the node's own frame.
+pub fn an_entry_is_what_its_node_does()
+    ensures next { (e : Exec) (t : List Entry) (x : Entry) (m : ℕ) (c : ℕ → Cell) → Follows c e t x m → has (next_by c (executable_at e m)) m ≡ true }
+    ensures offered { (e : Exec) (t : List Entry) (x : Entry) (m : ℕ) (c : ℕ → Cell) → Follows c e t x m → IsOffered (offer_by c (executable_at e m) m) m x }
 {}
