@@ -15,7 +15,7 @@ neither : (a b : Bool) → a ≡ false → b ≡ false → (a || b) ≡ false
 neither true b h i = absurd (cc)
 neither false b h i = i
 
-no_append : (a b : List ℕ) (q : ℕ) → has a q ≡ false → has b q ≡ false → has (a ++ b) q ≡ false
+pub no_append : (a b : List ℕ) (q : ℕ) → has a q ≡ false → has b q ≡ false → has (a ++ b) q ≡ false
 no_append a b q h i = has-append a b q ∙ neither (has a q) (has b q) h i
 
 no_first : (a b : List ℕ) (q : ℕ) → has a q ≡ false → has b q ≡ false → has (first_of_two a b) q ≡ false

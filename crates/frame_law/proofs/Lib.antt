@@ -7,3 +7,4 @@ pub mod NodeLemmas
 pub mod ChosenLemmas
 pub mod OfferedLemmas
 pub mod KindLemmas
+pub mod AlongLemmas

@@ -98,7 +98,7 @@ way_either : (c : ℕ → Cell) (b : Bool) (k j : Onward) (q : ℕ) → has (tou
 way_either c true k j q h i = h
 way_either c false k j q h i = i
 
-list_either : (b : Bool) (l : List ℕ) (q : ℕ) → has l q ≡ false → has (if b then l else []) q ≡ false
+pub list_either : (b : Bool) (l : List ℕ) (q : ℕ) → has l q ≡ false → has (if b then l else []) q ≡ false
 list_either true l q h = h
 list_either false l q h = refl
 

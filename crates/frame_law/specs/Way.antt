@@ -20,6 +20,14 @@ touched c (Joins n k) = n ∷ (if left (c n) == 1 then touched c k else [])
 touched c (PicksOn n total k) = if length (picked (c n)) == total then touched c k else []
 touched c (TestsAgain n) = []
 
+-- the nodes that the way from k on may ask or write
+abbrev pub along : Onward → List ℕ
+along Done = []
+along (Opens es) = nodes_all es
+along (Joins n k) = n ∷ along k
+along (PicksOn n total k) = n ∷ along k
+along (TestsAgain n) = []
+
 -- what is written there: a parallel has one element less, and where that was its last the way goes on; what is opened stands for no entry
 abbrev pub Ran : (ℕ → Cell) → (ℕ → Cell) → Onward → Type 0
 Ran c c' Done = Unit {0}

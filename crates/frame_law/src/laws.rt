@@ -1,17 +1,17 @@
 //! Laws of frames by an entry's own node. Each function's contract is the law, and its body is empty.
 
 ghost use Rattle.std.specs.Prelude.{◌≡◌, ℕ, true, List, [], ◌∷◌, ◌++◌, Some};
-ghost use Rattle.exec_tree.specs.Exec.{Exec, has};
+ghost use Rattle.exec_tree.specs.Exec.{Exec, nodes, has, AreDistinct};
 ghost use Rattle.trace_law.specs.Of.{number_of};
 ghost use Rattle.trace_law.specs.Next.{next};
 ghost use Rattle.trace_law.specs.Offer.{IsOffered, offer_by};
-ghost use Rattle.trace_law.specs.Cells.{Cell, next_by};
+ghost use Rattle.trace_law.specs.Cells.{Cell, next_by, AreKept};
 ghost use Rattle.trace_law.specs.Coming.{came, Changes};
 ghost use Rattle.trace_law.specs.Frames.{Stands, Goes};
 ghost use Rattle.run_log.specs.declared.entry.Entry.{Entry};
 ghost use Rattle.frame_law.specs.Executable.{executable_at};
 ghost use Rattle.frame_law.specs.Onward.{Onward, Done, onward, brings};
-ghost use Rattle.frame_law.specs.Way.{Follows, Writes, AreUnpicked};
+ghost use Rattle.frame_law.specs.Way.{Follows, Writes, AreUnpicked, AreKeptBut, touched, along, Ran};
 
 /// What comes in by an entry is told at its own node: by what the node is, and where the run goes on from it.
 pub fn what_comes_in_at_a_node()
@@ -33,4 +33,18 @@ pub fn frames_stand_by_a_node()
 pub fn an_entry_is_what_its_node_does()
     ensures next { (e : Exec) (t : List Entry) (x : Entry) (m : ℕ) (c : ℕ → Cell) → Follows c e t x m → has (next_by c (executable_at e m)) m ≡ true }
     ensures offered { (e : Exec) (t : List Entry) (x : Entry) (m : ℕ) (c : ℕ → Cell) → Follows c e t x m → IsOffered (offer_by c (executable_at e m) m) m x }
+{}
+
+/// The way up from a node lies apart from the node and what is within, and passes no node twice.
+pub fn the_way_lies_apart()
+    ensures { (e : Exec) (m : ℕ) → AreDistinct (nodes e) → AreDistinct (nodes (executable_at e m) ++ along (onward e Done m)) }
+{}
+
+/// Where nodes ns that lie apart from the way were written first, from c to d, and then the way was gone, from d to c', that is as if it were gone from c: what was
+/// written first stays, and the way wrote and brings in the same.
+pub fn the_way_is_gone_after()
+    ensures stays { (d c' : ℕ → Cell) (ns : List ℕ) (k : Onward) → AreDistinct (ns ++ along k) → AreKeptBut d c' (touched d k) → AreKept d c' ns }
+    ensures ran { (c d c' : ℕ → Cell) (ns : List ℕ) (k : Onward) → AreDistinct (ns ++ along k) → AreKeptBut c d ns → Ran d c' k → Ran c c' k }
+    ensures kept { (c d c' : ℕ → Cell) (ns : List ℕ) (k : Onward) → AreDistinct (ns ++ along k) → AreKeptBut c d ns → AreKeptBut d c' (touched d k) → AreKeptBut c c' (ns ++ touched c k) }
+    ensures same { (c d : ℕ → Cell) (ns : List ℕ) (k : Onward) → AreDistinct (ns ++ along k) → AreKeptBut c d ns → brings d k ≡ brings c k }
 {}
