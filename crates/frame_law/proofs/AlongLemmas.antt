@@ -23,7 +23,7 @@ distinct_join : (ms ns : List ℕ) → AreDistinct ms → AreDistinct ns → ((q
 distinct_join [] ns d g h = g
 distinct_join (m ∷ ms) ns d g h = (no_append ms ns m d.0 (h m (self m ms)), distinct_join ms ns d.1 g (λ q i. h q (yes_right (m ∷ []) ms q i)))
 
-not_in : (n q : ℕ) (ns : List ℕ) → has ns n ≡ false → has ns q ≡ true → (n == q) ≡ false
+pub not_in : (n q : ℕ) (ns : List ℕ) → has ns n ≡ false → has ns q ≡ true → (n == q) ≡ false
 not_in n q ns h i = not_true (n == q) (λ e. clash (has ns q) i (subst (λ (j : ℕ). has ns j ≡ false) (same_number n q e) h))
 
 no_cons : (n q : ℕ) (ns : List ℕ) → (n == q) ≡ false → has ns q ≡ false → has (n ∷ ns) q ≡ false

@@ -8,3 +8,5 @@ pub mod ChosenLemmas
 pub mod OfferedLemmas
 pub mod KindLemmas
 pub mod AlongLemmas
+pub mod UnpickedLemmas
+pub mod ThroughLemmas

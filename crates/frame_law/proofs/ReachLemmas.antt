@@ -59,7 +59,7 @@ kept_among c c' es k m x w q h i = w.kept q (found_among es m q h) (λ g. touche
 -- ---- what never has picks has none
 
 mutual
-  unpicked : (c : ℕ → Cell) (e : Exec) → AreUnpicked c e → NoPicks c e
+  pub unpicked : (c : ℕ → Cell) (e : Exec) → AreUnpicked c e → NoPicks c e
   unpicked c (Work n) v = tt
   unpicked c (Leaf n k) v = tt
   unpicked c (Plan n es) v = unpicked_all c es v
@@ -70,7 +70,7 @@ mutual
   unpicked c (If n a b) v = tt
   unpicked c (While n a) v = tt
 
-  unpicked_all : (c : ℕ → Cell) (es : Execs) → AreUnpickedAll c es → NoPicksAll c es
+  pub unpicked_all : (c : ℕ → Cell) (es : Execs) → AreUnpickedAll c es → NoPicksAll c es
   unpicked_all c None_left v = tt
   unpicked_all c (Then e es) v = (unpicked c e v.0, unpicked_all c es v.1)
 

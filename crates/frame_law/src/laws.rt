@@ -1,7 +1,7 @@
 //! Laws of frames by an entry's own node. Each function's contract is the law, and its body is empty.
 
 ghost use Rattle.std.specs.Prelude.{◌≡◌, ℕ, true, List, [], ◌∷◌, ◌++◌, Some};
-ghost use Rattle.exec_tree.specs.Exec.{Exec, nodes, has, AreDistinct};
+ghost use Rattle.exec_tree.specs.Exec.{Exec, has, AreDistinct};
 ghost use Rattle.trace_law.specs.Of.{number_of};
 ghost use Rattle.trace_law.specs.Next.{next};
 ghost use Rattle.trace_law.specs.Offer.{IsOffered, offer_by};
@@ -33,11 +33,6 @@ pub fn frames_stand_by_a_node()
 pub fn an_entry_is_what_its_node_does()
     ensures next { (e : Exec) (t : List Entry) (x : Entry) (m : ℕ) (c : ℕ → Cell) → Follows c e t x m → has (next_by c (executable_at e m)) m ≡ true }
     ensures offered { (e : Exec) (t : List Entry) (x : Entry) (m : ℕ) (c : ℕ → Cell) → Follows c e t x m → IsOffered (offer_by c (executable_at e m) m) m x }
-{}
-
-/// The way up from a node lies apart from the node and what is within, and passes no node twice.
-pub fn the_way_lies_apart()
-    ensures { (e : Exec) (m : ℕ) → AreDistinct (nodes e) → AreDistinct (nodes (executable_at e m) ++ along (onward e Done m)) }
 {}
 
 /// Where nodes ns that lie apart from the way were written first, from c to d, and then the way was gone, from d to c', that is as if it were gone from c: what was

@@ -4,3 +4,4 @@
 
 pub mod kinds;
 pub mod laws;
+pub mod tree;
