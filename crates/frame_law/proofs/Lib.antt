@@ -10,3 +10,4 @@ pub mod KindLemmas
 pub mod AlongLemmas
 pub mod UnpickedLemmas
 pub mod ThroughLemmas
+pub mod StepUpLemmas

@@ -1,5 +1,5 @@
 -- The executable that a number of the tree is of.
-use Rattle.std.specs.Prelude.{◌==◌, if◌then◌else◌, ℕ, None}
+use Rattle.std.specs.Prelude.{◌==◌, if◌then◌else◌, ℕ, zero, suc, Option, Some, None}
 use Rattle.exec_tree.specs.Exec.{Exec, Work, Leaf, Plan, Par, NonSeq, Sel, If, While, Execs, None_left, Then, nodes, has, number_or_none}
 
 -- the executable at node m of e; of a number that isn't one of e's nothing is meant
@@ -18,3 +18,26 @@ abbrev mutual
   pub executable_among : Execs → ℕ → Exec
   executable_among None_left m = Plan None None_left
   executable_among (Then e es) m = if has (nodes e) m then executable_at e m else executable_among es m
+
+-- the number that an executable has itself; the branch that an if leaves out has none
+abbrev pub own_number : Exec → Option ℕ
+own_number (Work n) = Some n
+own_number (Leaf n k) = Some n
+own_number (Plan n es) = n
+own_number (Par n es) = Some n
+own_number (NonSeq n es) = Some n
+own_number (Sel n es) = Some n
+own_number (If n a b) = Some n
+own_number (While n a) = Some n
+
+-- element i; past the end one without number and elements
+abbrev pub element : Execs → ℕ → Exec
+element None_left i = Plan None None_left
+element (Then e es) zero = e
+element (Then e es) (suc i) = element es i
+
+-- the elements behind element i
+abbrev pub behind : Execs → ℕ → Execs
+behind None_left i = None_left
+behind (Then e es) zero = es
+behind (Then e es) (suc i) = behind es i

@@ -1,12 +1,13 @@
 //! Laws of the tree that make its table of ways, and let what it says be shown node by node. Each function's contract is the law, and its body is empty.
 
-ghost use Rattle.std.specs.Prelude.{◌≡◌, ℕ, true, [], ◌++◌, None};
-ghost use Rattle.exec_tree.specs.Exec.{Exec, NonSeq, Execs, None_left, Plan, nodes, has, AreDistinct};
+ghost use Rattle.std.specs.Prelude.{◌≡◌, ℕ, true, [], ◌++◌, Option, Some, None};
+ghost use Rattle.exec_tree.specs.Exec.{Exec, Plan, Par, NonSeq, Sel, If, While, Execs, None_left, nodes, has, count, AreDistinct};
 ghost use Rattle.trace_law.specs.Cells.{Cell, Picked};
-ghost use Rattle.trace_law.specs.Frames.{Stands};
+ghost use Rattle.trace_law.specs.Next.{next_in_order};
+ghost use Rattle.trace_law.specs.Frames.{is_shared, Stands};
 ghost use Rattle.trace_law.specs.Leading.{leads};
-ghost use Rattle.frame_law.specs.Executable.{executable_at};
-ghost use Rattle.frame_law.specs.Onward.{Onward, Done, Opens, onward};
+ghost use Rattle.frame_law.specs.Executable.{executable_at, own_number, element, behind};
+ghost use Rattle.frame_law.specs.Onward.{Onward, Done, Opens, PicksOn, TestsAgain, opened_or, joined_or, onward};
 ghost use Rattle.frame_law.specs.Way.{AreUnpicked, AreUnpickedAll, along, Ran};
 
 /// The way up from a node lies apart from the node and what is within, and passes no node twice.
@@ -29,4 +30,22 @@ pub fn unpicked_at_each_node()
 pub fn what_leads_is_opened()
     ensures stands { (e : Exec) (c : ℕ → Cell) → AreUnpicked c e → Stands c (leads e) [] → Stands c e [] }
     ensures elements { (es : Execs) (c c' : ℕ → Cell) → AreUnpickedAll c' es → Stands c' (leads (Plan None es)) [] → Ran c c' (Opens es) }
+{}
+
+/// The root is found at its own number, and the way up from there is the one that goes on once the tree is over.
+pub fn the_root_is_found()
+    ensures found { (e : Exec) (n : ℕ) → own_number e ≡ Some n → executable_at e n ≡ e }
+    ensures onward { (e : Exec) (k : Onward) (n : ℕ) → own_number e ≡ Some n → onward e k n ≡ k }
+{}
+
+/// An element is found at its own number, and the way up from it is told by what holds it and the way up from there: in a plan the elements behind it are opened, a
+/// parallel that is shared has one element less, a non-sequential picks on, a while tests again, and from an element of a selective or a branch the way is that of the whole.
+pub fn elements_are_found()
+    ensures plan { (e : Exec) (k : Onward) (number : Option ℕ) (p : ℕ) (es : Execs) (i q : ℕ) → AreDistinct (nodes e) → executable_at e p ≡ Plan number es → own_number (element es i) ≡ Some q → (executable_at e q ≡ element es i) × (onward e k q ≡ opened_or (next_in_order (behind es i) []) (behind es i) (onward e k p)) }
+    ensures parallel { (e : Exec) (k : Onward) (p : ℕ) (es : Execs) (i q : ℕ) → AreDistinct (nodes e) → executable_at e p ≡ Par p es → own_number (element es i) ≡ Some q → (executable_at e q ≡ element es i) × (onward e k q ≡ joined_or (is_shared es) p (onward e k p)) }
+    ensures non_sequential { (e : Exec) (k : Onward) (p : ℕ) (es : Execs) (i q : ℕ) → AreDistinct (nodes e) → executable_at e p ≡ NonSeq p es → own_number (element es i) ≡ Some q → (executable_at e q ≡ element es i) × (onward e k q ≡ PicksOn p (count es) (onward e k p)) }
+    ensures selective { (e : Exec) (k : Onward) (p : ℕ) (es : Execs) (i q : ℕ) → AreDistinct (nodes e) → executable_at e p ≡ Sel p es → own_number (element es i) ≡ Some q → (executable_at e q ≡ element es i) × (onward e k q ≡ onward e k p) }
+    ensures branch_yes { (e : Exec) (k : Onward) (p : ℕ) (a b : Exec) (q : ℕ) → AreDistinct (nodes e) → executable_at e p ≡ If p a b → own_number a ≡ Some q → (executable_at e q ≡ a) × (onward e k q ≡ onward e k p) }
+    ensures branch_no { (e : Exec) (k : Onward) (p : ℕ) (a b : Exec) (q : ℕ) → AreDistinct (nodes e) → executable_at e p ≡ If p a b → own_number b ≡ Some q → (executable_at e q ≡ b) × (onward e k q ≡ onward e k p) }
+    ensures body { (e : Exec) (k : Onward) (p : ℕ) (a : Exec) (q : ℕ) → AreDistinct (nodes e) → executable_at e p ≡ While p a → own_number a ≡ Some q → (executable_at e q ≡ a) × (onward e k q ≡ TestsAgain p) }
 {}
