@@ -1,18 +1,42 @@
 //! The same for each kind of entry: what is written at its node and on the way up, that the frames then stand for the run with the entry,
 //! and how the nodes where the run can go on change. Each function's contract is the law, and its body is empty.
 
-ghost use Rattle.std.specs.Prelude.{◌≡◌, ◌==◌, ◌+◌, if◌then◌else◌, ℕ, Bool, true, false, List, [], ◌∷◌, ◌++◌, length, Some, None};
-ghost use Rattle.exec_tree.specs.Exec.{LeafKind, Exec, Work, Leaf, NonSeq, Sel, If, While, Execs, nodes, nodes_all, has, count};
+ghost use Rattle.std.specs.Prelude.{◌≡◌, ◌==◌, ◌+◌, if◌then◌else◌, ℕ, Bool, true, false, List, [], ◌∷◌, ◌++◌, length, Option, Some, None};
+ghost use Rattle.exec_tree.specs.Exec.{LeafKind, Exec, Work, Leaf, NonSeq, Sel, If, While, Execs, nodes, nodes_all, has, count, AreDistinct};
 ghost use Rattle.trace_law.specs.Next.{first_of_two, next, next_at};
 ghost use Rattle.trace_law.specs.State.{stage_step};
-ghost use Rattle.trace_law.specs.Cells.{Cell, Cutting, Over, Picked, AnsweredBy, stage_of, picked};
+ghost use Rattle.trace_law.specs.Cells.{Cell, Cutting, Over, Picked, AnsweredBy, stage_of, picked, work_after, next_by};
 ghost use Rattle.trace_law.specs.Coming.{Changes};
-ghost use Rattle.trace_law.specs.Frames.{Stands, StandsAt};
+ghost use Rattle.trace_law.specs.Frames.{Stands, StandsAt, Goes};
 ghost use Rattle.run_log.specs.declared.entry.Entry.{Entry};
 ghost use Rattle.run_log.specs.declared.entry.Entry.TheVariants.{Pick, Test};
 ghost use Rattle.frame_law.specs.Executable.{executable_at};
 ghost use Rattle.frame_law.specs.Onward.{Done, onward, brings};
 ghost use Rattle.frame_law.specs.Way.{Follows, AreKeptBut, AreUnpicked, touched, Ran};
+
+/// What is written at a node and, where it opens one, in its element: the node goes by the entry.
+pub fn a_node_moves_by_itself()
+    ensures workingstep { (x : Entry) (m : ℕ) (c c' : ℕ → Cell) → c' m ≡ work_after m (c m) x → Goes c (Work m) x c' }
+    ensures leaf { (x : Entry) (m : ℕ) (kind : LeafKind) (c c' : ℕ → Cell) → c' m ≡ Over → Goes c (Leaf m kind) x c' }
+    ensures non_sequential { (m : ℕ) (es : Execs) (i : ℕ) (c c' : ℕ → Cell) → c' m ≡ Picked (picked (c m) ++ i ∷ []) → StandsAt c' es i [] → Goes c (NonSeq m es) (Pick m i) c' }
+    ensures selective { (m : ℕ) (es : Execs) (i : ℕ) (c c' : ℕ → Cell) → picked (c m) ≡ [] → c' m ≡ Picked (i ∷ []) → StandsAt c' es i [] → Goes c (Sel m es) (Pick m i) c' }
+    ensures branch { (m : ℕ) (a b : Exec) (ans : Bool) (c c' : ℕ → Cell) → c' m ≡ AnsweredBy (Some ans) → Stands c' (if ans then a else b) [] → Goes c (If m a b) (Test m ans) c' }
+    ensures turn { (m : ℕ) (a : Exec) (c c' : ℕ → Cell) → c' m ≡ AnsweredBy (Some true) → Stands c' a [] → Goes c (While m a) (Test m true) c' }
+    ensures no_turn { (m : ℕ) (a : Exec) (c c' : ℕ → Cell) → c' m ≡ AnsweredBy (Some false) → Goes c (While m a) (Test m false) c' }
+{}
+
+/// Where a node goes on once that is written, so whether it is over: a workingstep and a leaf where their cell says so, a non-sequential where its element has
+/// nothing to do and all are picked, a selective and an if where their element has nothing to do, a while after a no.
+pub fn a_node_tells_whether_it_is_over()
+    ensures workingstep_over { (m : ℕ) (c : ℕ → Cell) → c m ≡ Over → next_by c (Work m) ≡ [] }
+    ensures workingstep_on { (m : ℕ) (blocks : Option ℕ) (c : ℕ → Cell) → c m ≡ Cutting blocks → next_by c (Work m) ≡ m ∷ [] }
+    ensures leaf { (m : ℕ) (kind : LeafKind) (c : ℕ → Cell) → c m ≡ Over → next_by c (Leaf m kind) ≡ [] }
+    ensures non_sequential { (m : ℕ) (es : Execs) (i : ℕ) (c c' : ℕ → Cell) → AreDistinct (nodes (NonSeq m es)) → c' m ≡ Picked (picked (c m) ++ i ∷ []) → StandsAt c' es i [] → next_by c' (NonSeq m es) ≡ first_of_two (next_at es i []) (if length (picked (c m)) + 1 == count es then [] else m ∷ []) }
+    ensures selective { (m : ℕ) (es : Execs) (i : ℕ) (c : ℕ → Cell) → AreDistinct (nodes (Sel m es)) → c m ≡ Picked (i ∷ []) → StandsAt c es i [] → next_by c (Sel m es) ≡ next_at es i [] }
+    ensures branch { (m : ℕ) (a b : Exec) (ans : Bool) (c : ℕ → Cell) → AreDistinct (nodes (If m a b)) → c m ≡ AnsweredBy (Some ans) → Stands c (if ans then a else b) [] → next_by c (If m a b) ≡ next (if ans then a else b) [] }
+    ensures turn { (m : ℕ) (a : Exec) (c : ℕ → Cell) → AreDistinct (nodes (While m a)) → c m ≡ AnsweredBy (Some true) → Stands c a [] → next_by c (While m a) ≡ first_of_two (next a []) (m ∷ []) }
+    ensures no_turn { (m : ℕ) (a : Exec) (c : ℕ → Cell) → c m ≡ AnsweredBy (Some false) → next_by c (While m a) ≡ [] }
+{}
 
 /// A workingstep that is dispatched, or makes a block: its own cell alone is written, and the nodes where the run can go on stay.
 pub fn a_workingstep_goes_on()
