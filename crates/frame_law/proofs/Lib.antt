@@ -11,3 +11,4 @@ pub mod AlongLemmas
 pub mod UnpickedLemmas
 pub mod ThroughLemmas
 pub mod StepUpLemmas
+pub mod Rows

@@ -1,4 +1,4 @@
--- Where a run goes on when a node is over: a fact of the tree, as trace_law's `after` is, but what is opened is said as elements.
+-- Where a run goes on when a node is over: a fact of the tree. As `after` of trace_law, but what is opened is said as elements, and it is said of plans and parallels too.
 use Rattle.std.specs.Prelude.{◌==◌, if◌then◌else◌, ℕ, Bool, true, false, List, [], ◌∷◌, length}
 use Rattle.exec_tree.specs.Exec.{Exec, Work, Leaf, Plan, Par, NonSeq, Sel, If, While, Execs, None_left, Then, nodes, has, number_or_none, count}
 use Rattle.trace_law.specs.Next.{next_in_order}
