@@ -1,26 +1,26 @@
 -- What stands, and what comes in, once an entry's own node is known.
-use Rattle.std.specs.Prelude.{◌≡◌, ℕ, true, List, [], ◌∷◌, ◌++◌}
+use Rattle.std.specs.Prelude.{◌≡◌, ℕ, zero, suc, true, List, [], ◌∷◌, ◌++◌}
 use Rattle.std.proofs.Common.{refl, sym, ◌∙◌, ap, subst}
-use Rattle.exec_tree.specs.Exec.{Exec, Sel, Execs, nodes, has, AreDistinct}
+use Rattle.exec_tree.specs.Exec.{Exec, Sel, Execs, None_left, Then, nodes, nodes_all, has, AreDistinct}
 use Rattle.trace_law.specs.Next.{next}
-use Rattle.trace_law.specs.Cells.{Cell, picked, next_by}
+use Rattle.trace_law.specs.Cells.{Cell, picked, next_by, AreKept}
 use Rattle.trace_law.specs.Offer.{Offer, IsOffered, offer_by}
 use Rattle.trace_law.specs.Coming.{came, Changes}
-use Rattle.trace_law.specs.Frames.{Stands, Goes}
+use Rattle.trace_law.specs.Frames.{Stands, StandsAt, Goes}
 use Rattle.run_log.specs.declared.entry.Entry.{Entry}
 use Rattle.run_log.specs.declared.entry.Entry.TheVariants.{Pick}
 use Rattle.trace_law.proofs.StepLemmas.{apart, next_has}
 use Rattle.trace_law.proofs.StepForthLemmas.{step_of}
 use Rattle.trace_law.proofs.FrameNextLemmas.{next_from_frames}
 use Rattle.trace_law.proofs.StepBackLemmas.{step_inside}
-use Rattle.trace_law.proofs.FrameMoveLemmas.{stands_step}
+use Rattle.trace_law.proofs.FrameMoveLemmas.{stands_step, stands_kept}
 use Rattle.trace_law.proofs.FrameOfferLemmas.{offer_from_frames}
 use Rattle.trace_law.proofs.OfferExactLemmas.{offers}
 use Rattle.trace_law.proofs.ArriveLemmas.{comes_last}
 use Rattle.frame_law.specs.Executable.{executable_at}
 use Rattle.frame_law.specs.Onward.{Onward, Done, onward, brings}
 use Rattle.frame_law.specs.Way.{Follows, Writes, AreUnpicked}
-use Rattle.frame_law.proofs.OutsideLemmas.{has_number}
+use Rattle.frame_law.proofs.OutsideLemmas.{has_number, yes_left, yes_right}
 use Rattle.frame_law.proofs.BringLemmas.{brought}
 use Rattle.frame_law.proofs.UpLemmas.{up}
 use Rattle.frame_law.proofs.ChosenLemmas.{by_node, unchosen, found_distinct}
@@ -70,3 +70,8 @@ offered_as c e t x m f =
     let there : has (next e t) m ≡ true = has_number (next e t) x m true f.number (next_has e t x z.0 z.1) in
     subst (λ (o : Offer). IsOffered o m x) (offer_from_frames c e t m d z.0 f.stands there ∙ offered_at c e m (has_number (nodes e) x m true f.number (step_inside e t x f.part)))
     (offers e t x m d z.0 z.1 f.number)
+
+pub at_kept : (c c' : ℕ → Cell) (es : Execs) (i : ℕ) (t : List Entry) → AreKept c c' (nodes_all es) → StandsAt c es i t → StandsAt c' es i t
+at_kept c c' None_left i t h s = tt
+at_kept c c' (Then e es) zero t h s = stands_kept c c' e t (λ q g. h q (yes_left (nodes e) (nodes_all es) q g)) s
+at_kept c c' (Then e es) (suc i) t h s = at_kept c c' es i t (λ q g. h q (yes_right (nodes e) (nodes_all es) q g)) s

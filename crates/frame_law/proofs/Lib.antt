@@ -11,4 +11,5 @@ pub mod AlongLemmas
 pub mod UnpickedLemmas
 pub mod ThroughLemmas
 pub mod StepUpLemmas
+pub mod LedLemmas
 pub mod Rows

@@ -42,7 +42,7 @@ own_onward (While a b) k n h = chosen_yes (a == n) _ _ (same a n h)
 first_is : (a n : ℕ) (ns : List ℕ) → Some a ≡ Some n → has (a ∷ ns) n ≡ true
 first_is a n ns h = let f : (a == n) ≡ true = same a n h in rw f refl
 
-own_inside : (e : Exec) (n : ℕ) → own_number e ≡ Some n → has (nodes e) n ≡ true
+pub own_inside : (e : Exec) (n : ℕ) → own_number e ≡ Some n → has (nodes e) n ≡ true
 own_inside (Work a) n h = first_is a n [] h
 own_inside (Leaf a k) n h = first_is a n [] h
 own_inside (Plan a es) n h = yes_left (number_or_none a) (nodes_all es) n (ap (λ (o : Option ℕ). has (number_or_none o) n) h ∙ here n n [] refl)

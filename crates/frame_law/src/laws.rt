@@ -1,13 +1,13 @@
 //! Laws of frames by an entry's own node. Each function's contract is the law, and its body is empty.
 
 ghost use Rattle.std.specs.Prelude.{◌≡◌, ℕ, true, List, [], ◌∷◌, ◌++◌, Some};
-ghost use Rattle.exec_tree.specs.Exec.{Exec, has, AreDistinct};
+ghost use Rattle.exec_tree.specs.Exec.{Exec, Execs, nodes, nodes_all, has, AreDistinct};
 ghost use Rattle.trace_law.specs.Of.{number_of};
 ghost use Rattle.trace_law.specs.Next.{next};
 ghost use Rattle.trace_law.specs.Offer.{IsOffered, offer_by};
 ghost use Rattle.trace_law.specs.Cells.{Cell, next_by, AreKept};
 ghost use Rattle.trace_law.specs.Coming.{came, Changes};
-ghost use Rattle.trace_law.specs.Frames.{Stands, Goes};
+ghost use Rattle.trace_law.specs.Frames.{Stands, StandsAt, Goes};
 ghost use Rattle.run_log.specs.declared.entry.Entry.{Entry};
 ghost use Rattle.frame_law.specs.Executable.{executable_at};
 ghost use Rattle.frame_law.specs.Onward.{Onward, Done, onward, brings};
@@ -42,4 +42,10 @@ pub fn the_way_is_gone_after()
     ensures ran { (c d c' : ℕ → Cell) (ns : List ℕ) (k : Onward) → AreDistinct (ns ++ along k) → AreKeptBut c d ns → Ran d c' k → Ran c c' k }
     ensures kept { (c d c' : ℕ → Cell) (ns : List ℕ) (k : Onward) → AreDistinct (ns ++ along k) → AreKeptBut c d ns → AreKeptBut d c' (touched d k) → AreKeptBut c c' (ns ++ touched c k) }
     ensures same { (c d : ℕ → Cell) (ns : List ℕ) (k : Onward) → AreDistinct (ns ++ along k) → AreKeptBut c d ns → brings d k ≡ brings c k }
+{}
+
+/// Frames that stand still do where the cells of what they stand in are kept.
+pub fn what_is_kept_stands()
+    ensures whole { (e : Exec) (t : List Entry) (c c' : ℕ → Cell) → AreKept c c' (nodes e) → Stands c e t → Stands c' e t }
+    ensures element { (es : Execs) (i : ℕ) (t : List Entry) (c c' : ℕ → Cell) → AreKept c c' (nodes_all es) → StandsAt c es i t → StandsAt c' es i t }
 {}

@@ -26,6 +26,13 @@ pub fn unpicked_at_each_node()
     ensures { (e : Exec) (c : ℕ → Cell) → AreDistinct (nodes e) → ((n : ℕ) → has (nodes e) n ≡ true → executable_at e n ≡ NonSeq n None_left → c n ≡ Picked []) → AreUnpicked c e }
 {}
 
+/// The executable where opening leads is found at its own number: from a node, from an executable of the tree, and from the elements behind one of a plan.
+pub fn where_it_leads_is_found()
+    ensures within { (e : Exec) (r : ℕ) → AreDistinct (nodes e) → own_number (leads e) ≡ Some r → (has (nodes e) r ≡ true) × (executable_at e r ≡ leads e) }
+    ensures tree { (e : Exec) (p r : ℕ) → AreDistinct (nodes e) → own_number (leads (executable_at e p)) ≡ Some r → executable_at e r ≡ leads (executable_at e p) }
+    ensures elements { (e : Exec) (number : Option ℕ) (p : ℕ) (es : Execs) (i r : ℕ) → AreDistinct (nodes e) → executable_at e p ≡ Plan number es → own_number (leads (Plan None (behind es i))) ≡ Some r → executable_at e r ≡ leads (Plan None (behind es i)) }
+{}
+
 /// To open where an executable leads, or elements in order, is to open these.
 pub fn what_leads_is_opened()
     ensures stands { (e : Exec) (c : ℕ → Cell) → AreUnpicked c e → Stands c (leads e) [] → Stands c e [] }
