@@ -1,7 +1,7 @@
 -- What comes in by an entry is told at its own node.
-use Rattle.std.specs.Prelude.{◌≡◌, ◌==◌, if◌then◌else◌, ℕ, Bool, true, false, List, [], ◌∷◌, ◌++◌, length, Option, Some, None}
+use Rattle.std.specs.Prelude.{◌≡◌, ◌==◌, if◌then◌else◌, ℕ, Bool, true, false, List, [], ◌∷◌, Option, Some}
 use Rattle.std.proofs.Common.{refl, sym, ◌∙◌, ap}
-use Rattle.exec_tree.specs.Exec.{Exec, Work, Leaf, Plan, Par, NonSeq, Sel, If, While, Execs, None_left, Then, nodes, nodes_all, has, number_or_none, count, AreDistinct}
+use Rattle.exec_tree.specs.Exec.{Exec, Work, Leaf, Plan, Par, NonSeq, Sel, If, While, Execs, None_left, Then, nodes, has, number_or_none, count}
 use Rattle.trace_law.specs.Of.{number_of, is_of}
 use Rattle.trace_law.specs.Own.{pick_of, test_of}
 use Rattle.trace_law.specs.Next.{first_of_two, next_in_order}
@@ -9,11 +9,10 @@ use Rattle.trace_law.specs.Cells.{Cell}
 use Rattle.trace_law.specs.Frames.{is_shared, left}
 use Rattle.trace_law.specs.Coming.{came, came_in_order, came_among}
 use Rattle.run_log.specs.declared.entry.Entry.{Entry}
-use Rattle.trace_law.proofs.StepLemmas.{distinct_left, distinct_right, distinct_across}
 use Rattle.trace_law.proofs.ArriveLemmas.{if_some_none}
 use Rattle.frame_law.specs.Executable.{executable_at, executable_among}
 use Rattle.frame_law.specs.Onward.{Onward, PicksOn, TestsAgain, opened_or, joined_or, onward, onward_in_order, onward_among, brings}
-use Rattle.frame_law.proofs.OutsideLemmas.{of_number, other_pick, other_test, no_left, no_right}
+use Rattle.frame_law.proofs.OutsideLemmas.{of_number, other_pick, other_test}
 
 opened_brings : (c : ℕ → Cell) (l : List ℕ) (es : Execs) (k : Onward) → next_in_order es [] ≡ l → brings c (opened_or l es k) ≡ first_of_two l (brings c k)
 opened_brings c [] es k e = refl

@@ -1,6 +1,6 @@
 -- Where a run can go on at a node, the node's own frame says so; so a selective that is picked of wasn't before.
 use Rattle.std.specs.Prelude.{◌≡◌, ◌⊎◌, ◌==◌, ◌||◌, if◌then◌else◌, ℕ, zero, suc, Bool, true, false, List, [], ◌∷◌, ◌++◌, length, Option, Some, None}
-use Rattle.std.proofs.Common.{refl, sym, ◌∙◌, ap, subst, inl, inr}
+use Rattle.std.proofs.Common.{refl, sym, ◌∙◌, inl, inr}
 use Rattle.exec_tree.specs.Exec.{Exec, Work, Leaf, Plan, Par, NonSeq, Sel, If, While, Execs, None_left, Then, nodes, nodes_all, has, number_or_none, count, AreDistinct}
 use Rattle.trace_law.specs.Next.{first_of_two, next_of_last}
 use Rattle.trace_law.specs.Cells.{Cell, Cutting, Going, Over, Picked, AnsweredBy, Left, if_going, picked, answer, after_picks, after_answer, next_by, next_by_order, next_by_each, next_by_at}
@@ -139,8 +139,8 @@ mutual
       (λ o.
       let z = in_answer (answer (c n)) (next_by c a) (next_by c b) n m o h in
       one_or c (executable_at a m) (executable_at b m) m (has (nodes a) m)
-      (λ i. by_node c a m (distinct_left (nodes a) (nodes b) d.1) (elim z [ | inl g ↦ g | inr g ↦ absurd (clash (has (next_by c b) m) g (by_outside c b m (distinct_across (nodes a) (nodes b) m d.1 i))) ]))
-      (λ i. by_node c b m (distinct_right (nodes a) (nodes b) d.1) (elim z [ | inl g ↦ absurd (clash (has (next_by c a) m) g (by_outside c a m i)) | inr g ↦ g ])))
+      (λ i. by_node c a m (distinct_left (nodes a) (nodes b) d.1) (elim z [ inl g ↦ g | inr g ↦ absurd (clash (has (next_by c b) m) g (by_outside c b m (distinct_across (nodes a) (nodes b) m d.1 i))) ]))
+      (λ i. by_node c b m (distinct_right (nodes a) (nodes b) d.1) (elim z [ inl g ↦ absurd (clash (has (next_by c a) m) g (by_outside c a m i)) | inr g ↦ g ])))
   by_node c (While n a) m d h =
       own_or c (While n a) (executable_at a m) m (n == m) h
       (λ o.

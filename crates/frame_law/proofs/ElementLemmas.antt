@@ -7,21 +7,20 @@ use Rattle.trace_law.specs.Of.{number_of, is_of, only}
 use Rattle.trace_law.specs.Own.{picks, pick_of, test_of, Turn, Tested, turns}
 use Rattle.trace_law.specs.Elements.{nodes_at, part_at}
 use Rattle.trace_law.specs.Part.{LastMayBeCut, IsLoopSoFar, Part, PartAt}
-use Rattle.trace_law.specs.Whole.{Answered, Whole, WholeAt}
+use Rattle.trace_law.specs.Whole.{Answered, Whole}
 use Rattle.trace_law.specs.Step.{IsTest, AtLast, StepLoop, Step, StepAt}
 use Rattle.trace_law.specs.Next.{first_of_two, next_of_last}
-use Rattle.trace_law.specs.Cells.{Cell, Picked, AnsweredBy, last_answer, last_body, answer, picked, after_picks, after_answer, next_by, next_by_at, WhereTrue}
+use Rattle.trace_law.specs.Cells.{Cell, Picked, AnsweredBy, last_answer, last_body, answer, picked, after_picks, after_answer, next_by, next_by_at}
 use Rattle.trace_law.specs.Frames.{OfFirst, OfLast, OfBranch, Stands, StandsAt, Goes, GoesOne}
 use Rattle.run_log.specs.declared.entry.Entry.{Entry}
-use Rattle.run_log.specs.declared.entry.Entry.TheVariants.{Note}
-use Rattle.trace_law.proofs.StepLemmas.{Apart, ApartAll, not_of_left, not_of_right}
+use Rattle.trace_law.proofs.StepLemmas.{Apart, not_of_left, not_of_right}
 use Rattle.trace_law.proofs.StepForthLemmas.{at_outside, pick_is}
 use Rattle.trace_law.proofs.StepBackLemmas.{part_inside, part_inside_at, step_inside, part_of_step}
 use Rattle.trace_law.proofs.ContinueLemmas.{clash}
 use Rattle.trace_law.proofs.StayLemmas.{not_true}
 use Rattle.trace_law.proofs.CellNextLemmas.{only_rest}
 use Rattle.trace_law.proofs.FrameMoveLemmas.{test_out}
-use Rattle.frame_law.specs.Onward.{Onward, PicksOn, TestsAgain}
+use Rattle.frame_law.specs.Onward.{Onward}
 use Rattle.frame_law.proofs.OutsideLemmas.{not_rest, has_number}
 use Rattle.frame_law.proofs.ReachLemmas.{Reaches, reaches_wider, body_reaches, where_none}
 

@@ -8,7 +8,6 @@ use Rattle.trace_law.specs.Offer.{Offer, IsOffered, offer_by}
 use Rattle.trace_law.specs.Coming.{came, Changes}
 use Rattle.trace_law.specs.Frames.{Stands, StandsAt, Goes}
 use Rattle.run_log.specs.declared.entry.Entry.{Entry}
-use Rattle.run_log.specs.declared.entry.Entry.TheVariants.{Pick}
 use Rattle.trace_law.proofs.StepLemmas.{apart, next_has}
 use Rattle.trace_law.proofs.StepForthLemmas.{step_of}
 use Rattle.trace_law.proofs.FrameNextLemmas.{next_from_frames}
@@ -18,7 +17,7 @@ use Rattle.trace_law.proofs.FrameOfferLemmas.{offer_from_frames}
 use Rattle.trace_law.proofs.OfferExactLemmas.{offers}
 use Rattle.trace_law.proofs.ArriveLemmas.{comes_last}
 use Rattle.frame_law.specs.Executable.{executable_at}
-use Rattle.frame_law.specs.Onward.{Onward, Done, onward, brings}
+use Rattle.frame_law.specs.Onward.{Done, onward, brings}
 use Rattle.frame_law.specs.Way.{Follows, Writes, AreUnpicked}
 use Rattle.frame_law.proofs.OutsideLemmas.{has_number, yes_left, yes_right}
 use Rattle.frame_law.proofs.BringLemmas.{brought}

@@ -3,7 +3,7 @@ use Rattle.std.specs.Prelude.{◌≡◌, ◌==◌, ◌+◌, if◌then◌else◌,
 use Rattle.std.proofs.Common.{refl, sym, ◌∙◌, ap, subst}
 use Rattle.std.proofs.lemmas.Bool.Decides.{nat_tests}
 use Rattle.std.proofs.Common.{arith}
-use Rattle.exec_tree.specs.Exec.{LeafKind, Exec, Work, Leaf, NonSeq, Sel, If, While, Execs, None_left, Then, nodes, nodes_all, has, count, AreDistinct}
+use Rattle.exec_tree.specs.Exec.{LeafKind, Exec, Work, Leaf, NonSeq, Sel, If, While, Execs, None_left, Then, nodes, nodes_all, has, count}
 use Rattle.trace_law.specs.Own.{pick_of, test_of}
 use Rattle.trace_law.specs.Next.{first_of_two, next_of_last, next, next_at}
 use Rattle.trace_law.specs.State.{stage_step}
@@ -13,7 +13,7 @@ use Rattle.trace_law.specs.Coming.{if_some, came}
 use Rattle.run_log.specs.declared.entry.Entry.{Entry}
 use Rattle.run_log.specs.declared.entry.Entry.TheVariants.{Pick, Test}
 use Rattle.trace_law.proofs.WholeNextLemmas.{first_empty_left, first_empty_right, all_picked, none_left}
-use Rattle.trace_law.proofs.StepLemmas.{ApartAll, Apart, apart, apart_all, distinct_left, distinct_right}
+use Rattle.trace_law.proofs.StepLemmas.{ApartAll, Apart}
 use Rattle.trace_law.proofs.StepForthLemmas.{pick_of_pick}
 use Rattle.trace_law.proofs.StepBackLemmas.{part_nil}
 use Rattle.trace_law.proofs.FrameNextLemmas.{next_from_frames}

@@ -1,6 +1,6 @@
 -- What is said of a node outside of some: it isn't in the executable that is found, nor touched on the way.
-use Rattle.std.specs.Prelude.{◌≡◌, ◌==◌, ◌||◌, if◌then◌else◌, ℕ, Bool, true, false, List, [], ◌∷◌, ◌++◌, length, Option, Some, None}
-use Rattle.std.proofs.Common.{refl, sym, ◌∙◌, ap, subst}
+use Rattle.std.specs.Prelude.{◌≡◌, ◌==◌, ◌||◌, if◌then◌else◌, ℕ, Bool, true, false, List, [], ◌∷◌, ◌++◌, length, Some, None}
+use Rattle.std.proofs.Common.{refl, sym, ◌∙◌}
 use Rattle.exec_tree.specs.Exec.{Exec, Work, Leaf, Plan, Par, NonSeq, Sel, If, While, Execs, None_left, Then, nodes, nodes_all, has, number_or_none, count, AreDistinct}
 use Rattle.trace_law.specs.Of.{number_of, is_of}
 use Rattle.trace_law.specs.Own.{pick_of, test_of}
@@ -14,7 +14,7 @@ use Rattle.trace_law.proofs.ContinueLemmas.{clash}
 use Rattle.trace_law.proofs.StayLemmas.{not_true}
 use Rattle.trace_law.proofs.FrameMoveLemmas.{no_pick, no_test}
 use Rattle.frame_law.specs.Executable.{executable_at, executable_among}
-use Rattle.frame_law.specs.Onward.{Onward, Opens, Joins, PicksOn, TestsAgain, opened_or, joined_or, onward, onward_in_order, onward_among}
+use Rattle.frame_law.specs.Onward.{Onward, PicksOn, TestsAgain, opened_or, joined_or, onward, onward_in_order, onward_among}
 use Rattle.frame_law.specs.Way.{touched}
 
 -- ---- lists of numbers

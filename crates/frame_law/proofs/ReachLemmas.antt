@@ -1,9 +1,8 @@
 -- How far the way up has come: an executable is over and the way goes on from it, or it goes on and nothing outside of it is written.
-use Rattle.std.specs.Prelude.{◌≡◌, ◌⊎◌, ◌==◌, ◌+◌, ◌-◌, ◌≤◌, if◌then◌else◌, ℕ, Bool, true, false, List, [], ◌∷◌, ◌++◌, length, Option, Some, None, IsSomeAnd}
+use Rattle.std.specs.Prelude.{◌≡◌, ◌⊎◌, ◌==◌, ◌+◌, ◌-◌, if◌then◌else◌, ℕ, Bool, true, false, List, [], ◌∷◌, ◌++◌, length, Option, Some, None, IsSomeAnd}
 use Rattle.std.proofs.Common.{refl, sym, ◌∙◌, ap, subst, inl, inr, arith}
 use Rattle.std.proofs.lemmas.Bool.Decides.{nat_tests}
 use Rattle.exec_tree.specs.Exec.{Exec, Work, Leaf, Plan, Par, NonSeq, Sel, If, While, Execs, None_left, Then, nodes, nodes_all, has, count, AreDistinct}
-use Rattle.trace_law.specs.Of.{is_of}
 use Rattle.trace_law.specs.Part.{EachPart}
 use Rattle.trace_law.specs.Step.{StepOfOne}
 use Rattle.trace_law.specs.Next.{first_of_two, next_in_order, next_each}

@@ -1,11 +1,11 @@
 -- The way up from an element, by what holds the element and the way up from there.
-use Rattle.std.specs.Prelude.{◌≡◌, ◌==◌, if◌then◌else◌, ℕ, zero, suc, Bool, true, false, List, [], ◌∷◌, ◌++◌, Option, Some, None}
+use Rattle.std.specs.Prelude.{◌≡◌, ◌==◌, ℕ, zero, suc, true, false, List, [], ◌∷◌, ◌++◌, Option, Some}
 use Rattle.std.proofs.Common.{refl, sym, ◌∙◌, ap, subst, arith}
 use Rattle.std.proofs.lemmas.Bool.Decides.{nat_tests}
 use Rattle.exec_tree.specs.Exec.{Exec, Work, Leaf, Plan, Par, NonSeq, Sel, If, While, Execs, None_left, Then, nodes, nodes_all, has, number_or_none, count, AreDistinct}
 use Rattle.trace_law.specs.Next.{next_in_order}
 use Rattle.trace_law.specs.Frames.{is_shared}
-use Rattle.trace_law.proofs.StepLemmas.{here, distinct_left, distinct_right}
+use Rattle.trace_law.proofs.StepLemmas.{here, distinct_right}
 use Rattle.trace_law.proofs.OfferLemmas.{chosen_yes, chosen_no}
 use Rattle.frame_law.specs.Executable.{executable_at, executable_among, own_number, element, behind}
 use Rattle.frame_law.specs.Onward.{Onward, PicksOn, TestsAgain, opened_or, joined_or, onward, onward_in_order, onward_among}
@@ -162,5 +162,7 @@ of_body e k p a q d h own =
     (λ g.
     let in_a = own_inside a q own in
     let out : (p == q) ≡ false = not_in p q (nodes a) g.0 in_a in (
-      yes_right (p ∷ []) (nodes a) q in_a, chosen_no (p == q) _ _ out ∙ own_found a q own, chosen_no (p == q) _ _ out ∙ own_onward a _ q own,
+      yes_right (p ∷ []) (nodes a) q in_a,
+      chosen_no (p == q) _ _ out ∙ own_found a q own,
+      chosen_no (p == q) _ _ out ∙ own_onward a _ q own,
     ))

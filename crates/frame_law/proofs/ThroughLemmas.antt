@@ -1,6 +1,6 @@
 -- What is found within an executable of the tree is what is found in the tree, and the way up from it leads through that executable.
-use Rattle.std.specs.Prelude.{◌≡◌, ◌==◌, if◌then◌else◌, ℕ, Bool, true, false, List, [], ◌∷◌, ◌++◌}
-use Rattle.std.proofs.Common.{refl, sym, ◌∙◌, ap, subst}
+use Rattle.std.specs.Prelude.{◌≡◌, ◌==◌, if◌then◌else◌, ℕ, Bool, true, false, [], ◌++◌}
+use Rattle.std.proofs.Common.{refl, ◌∙◌, subst}
 use Rattle.exec_tree.specs.Exec.{Exec, Work, Leaf, Plan, Par, NonSeq, Sel, If, While, Execs, None_left, Then, nodes, nodes_all, has, number_or_none, count, AreDistinct}
 use Rattle.trace_law.specs.Next.{next_in_order}
 use Rattle.trace_law.specs.Frames.{is_shared}
@@ -83,9 +83,10 @@ mutual
       let first : has (nodes x) n ≡ true → (has (nodes x) m ≡ true) × Through (executable_at x m) (executable_at x n) (onward x k m) (onward x k n) m =
       λ r. let z = in_first (has (nodes x) n) (executable_at x n) (executable_at y n) m r i in (in_found x n m z, through x k n m (distinct_left (nodes x) (nodes y) d.1) z) in
       let second : has (nodes x) n ≡ false → (has (nodes x) m ≡ false) × Through (executable_at y m) (executable_at y n) (onward y k m) (onward y k n) m =
-      λ r. let z = in_rest (has (nodes x) n) (executable_at x n) (executable_at y n) m r i in (across_back (nodes x) (nodes y) m d.1 (in_found y n m z), through y k n m (distinct_right (nodes x) (nodes y) d.1) z) in
-      (not_in a m (nodes x ++ nodes y) d.0 (in_branches x y n m (has (nodes x) n) i),
-      both_through m (has (nodes x) n) (has (nodes x) m) (executable_at x n) (executable_at y n) (executable_at x m) (executable_at y m) (onward x k n) (onward y k n) (onward x k m) (onward y k m) first second))
+      λ r. let z = in_rest (has (nodes x) n) (executable_at x n) (executable_at y n) m r i in (across_back (nodes x) (nodes y) m d.1 (in_found y n m z), through y k n m (distinct_right (nodes x) (nodes y) d.1) z) in (
+        not_in a m (nodes x ++ nodes y) d.0 (in_branches x y n m (has (nodes x) n) i),
+        both_through m (has (nodes x) n) (has (nodes x) m) (executable_at x n) (executable_at y n) (executable_at x m) (executable_at y m) (onward x k n) (onward y k n) (onward x k m) (onward y k m) first second,
+      ))
   through (While a x) k n m d h =
       own_through (While a x) k m (a == n) (a == m) (executable_at x n) (executable_at x m) (onward x (TestsAgain a) n) (onward x (TestsAgain a) m) refl refl
       (λ o.

@@ -1,32 +1,30 @@
 -- From what is written at an entry's own node and on the way up to the step of the whole.
-use Rattle.std.specs.Prelude.{◌≡◌, ◌==◌, ◌||◌, if◌then◌else◌, ℕ, zero, suc, Bool, true, false, List, [], ◌∷◌, ◌++◌, length, Option, Some, None, IsSomeAnd}
-use Rattle.std.proofs.Common.{refl, sym, ◌∙◌, ap, subst, inl, inr}
+use Rattle.std.specs.Prelude.{◌≡◌, ◌==◌, if◌then◌else◌, ℕ, zero, suc, Bool, true, false, List, [], ◌∷◌, ◌++◌, length, Some, None}
+use Rattle.std.proofs.Common.{refl, sym, ◌∙◌, subst, inl, inr}
 use Rattle.exec_tree.specs.Exec.{Exec, Work, Leaf, Plan, Par, NonSeq, Sel, If, While, Execs, None_left, Then, nodes, nodes_all, has, number_or_none, count, AreDistinct}
 use Rattle.trace_law.specs.Of.{number_of, is_of, only}
-use Rattle.trace_law.specs.Own.{picks, pick_of, test_of, turns}
+use Rattle.trace_law.specs.Own.{picks, pick_of, test_of}
 use Rattle.trace_law.specs.Elements.{part_at}
 use Rattle.trace_law.specs.Part.{Part, EachPart, InOrder, PartAt}
-use Rattle.trace_law.specs.Whole.{Whole, WholeAt}
-use Rattle.trace_law.specs.Step.{IsTest, Step, StepInOrder, StepOfOne, StepAt}
+use Rattle.trace_law.specs.Whole.{WholeAt}
+use Rattle.trace_law.specs.Step.{Step, StepInOrder, StepOfOne, StepAt}
 use Rattle.trace_law.specs.Next.{first_of_two, next, next_in_order}
-use Rattle.trace_law.specs.Cells.{Cell, picked, next_by, next_by_order, next_by_each, next_by_at, AreKept}
+use Rattle.trace_law.specs.Cells.{Cell, picked, next_by, next_by_order, next_by_at, AreKept}
 use Rattle.trace_law.specs.Frames.{is_shared, next_by_of, Stands, StandsInOrder, StandsEach, StandsAt, Goes, GoesInOrder, GoesOne}
 use Rattle.run_log.specs.declared.entry.Entry.{Entry}
 use Rattle.trace_law.proofs.WholeNextLemmas.{empty_from_whole}
 use Rattle.trace_law.proofs.StepLemmas.{Apart, apart, apart_all, distinct_left, distinct_right, distinct_across, is_of_left, is_of_right, here}
 use Rattle.trace_law.proofs.StepForthLemmas.{at_inside}
 use Rattle.trace_law.proofs.StepBackLemmas.{step_inside, part_of_step}
-use Rattle.trace_law.proofs.ContinueLemmas.{clash}
-use Rattle.trace_law.proofs.StayLemmas.{inside_at, not_true}
+use Rattle.trace_law.proofs.StayLemmas.{inside_at}
 use Rattle.trace_law.proofs.OfferLemmas.{chosen_yes, chosen_no}
-use Rattle.trace_law.proofs.OfferExactLemmas.{other_number}
 use Rattle.trace_law.proofs.CellNextLemmas.{no_cons}
 use Rattle.trace_law.proofs.FrameNextLemmas.{where_empty, next_from_frames}
 use Rattle.trace_law.proofs.FrameMoveLemmas.{stands_kept, stands_step}
 use Rattle.frame_law.specs.Executable.{executable_at, executable_among}
 use Rattle.frame_law.specs.Onward.{Onward, PicksOn, TestsAgain, opened_or, joined_or, onward, onward_in_order, onward_among}
 use Rattle.frame_law.specs.Way.{touched, Writes, AreUnpicked, AreUnpickedAll}
-use Rattle.frame_law.proofs.OutsideLemmas.{no_left, no_right, not_first, not_rest, yes_left, yes_right, across_back, of_number, has_number, other_pick, other_test, opened_outside, joined_outside, picks_outside}
+use Rattle.frame_law.proofs.OutsideLemmas.{no_left, no_right, not_first, yes_left, yes_right, across_back, of_number, has_number, other_pick, other_test, opened_outside, joined_outside, picks_outside}
 use Rattle.frame_law.proofs.ReachLemmas.{Reaches, own_reaches, writes_as, reaches_wider, kept_outside, kept_in_order, kept_among, first_reaches, par_count, par_reaches, picks_reaches, where_none, no_some}
 use Rattle.frame_law.proofs.ElementLemmas.{last_is, picked_next, sel_later, branch_later, body_later}
 

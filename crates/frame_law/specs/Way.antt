@@ -1,5 +1,5 @@
 -- What is written on the way up from a node that is over.
-use Rattle.std.specs.Prelude.{◌≡◌, ◌==◌, ◌-◌, if◌then◌else◌, ℕ, Bool, true, false, List, [], ◌∷◌, ◌++◌, length, Some}
+use Rattle.std.specs.Prelude.{◌≡◌, ◌==◌, ◌-◌, if◌then◌else◌, ℕ, false, List, [], ◌∷◌, ◌++◌, length, Some}
 use Rattle.exec_tree.specs.Exec.{Exec, Work, Leaf, Plan, Par, NonSeq, Sel, If, While, Execs, None_left, Then, nodes, nodes_all, has, AreDistinct}
 use Rattle.trace_law.specs.Of.{number_of}
 use Rattle.trace_law.specs.Part.{Part}
