@@ -1,24 +1,30 @@
 -- What stands, and what comes in, once an entry's own node is known.
-use Rattle.std.specs.Prelude.{◌≡◌, ℕ, zero, suc, true, List, [], ◌∷◌, ◌++◌}
-use Rattle.std.proofs.Common.{refl, sym, ◌∙◌, ap, subst}
-use Rattle.exec_tree.specs.Exec.{Exec, Sel, Execs, None_left, Then, nodes, nodes_all, has, AreDistinct}
+use Rattle.std.specs.Prelude.{◌≡◌, ◌==◌, ℕ, zero, suc, Bool, true, false, List, [], ◌∷◌, ◌++◌, Option, Some, None}
+use Rattle.std.proofs.Common.{refl, sym, ◌∙◌, ap, subst, arith}
+use Rattle.std.proofs.lemmas.Bool.Decides.{nat_tests}
+use Rattle.exec_tree.specs.Exec.{Exec, Work, Sel, Execs, None_left, Then, nodes, nodes_all, has, AreDistinct}
 use Rattle.trace_law.specs.Next.{next}
-use Rattle.trace_law.specs.Cells.{Cell, picked, next_by, AreKept}
-use Rattle.trace_law.specs.Offer.{Offer, IsOffered, offer_by}
+use Rattle.trace_law.specs.Cells.{Cell, stage_of, picked, next_by, AreKept}
+use Rattle.trace_law.specs.Offer.{Offer, IsOffered, offer, offer_by, offer_of_work}
+use Rattle.trace_law.specs.Part.{Part}
+use Rattle.trace_law.specs.State.{stage_step}
 use Rattle.trace_law.specs.Coming.{came, Changes}
 use Rattle.trace_law.specs.Frames.{Stands, StandsAt, Goes}
 use Rattle.run_log.specs.declared.entry.Entry.{Entry}
+use Rattle.run_log.specs.declared.entry.Entry.TheVariants.{Dispatch, Block, End}
 use Rattle.trace_law.proofs.StepLemmas.{apart, next_has}
 use Rattle.trace_law.proofs.StepForthLemmas.{step_of}
 use Rattle.trace_law.proofs.FrameNextLemmas.{next_from_frames}
 use Rattle.trace_law.proofs.StepBackLemmas.{step_inside}
 use Rattle.trace_law.proofs.FrameMoveLemmas.{stands_step, stands_kept}
+use Rattle.trace_law.proofs.ContinueLemmas.{clash}
+use Rattle.trace_law.proofs.PreorderLemmas.{next_within, not_within}
 use Rattle.trace_law.proofs.FrameOfferLemmas.{offer_from_frames}
 use Rattle.trace_law.proofs.OfferExactLemmas.{offers}
 use Rattle.trace_law.proofs.ArriveLemmas.{comes_last}
 use Rattle.frame_law.specs.Executable.{executable_at}
 use Rattle.frame_law.specs.Onward.{Done, onward, brings}
-use Rattle.frame_law.specs.Way.{Follows, Writes, AreUnpicked}
+use Rattle.frame_law.specs.Way.{Follows, Writes, AreUnpicked, blocks_after}
 use Rattle.frame_law.proofs.OutsideLemmas.{has_number, yes_left, yes_right}
 use Rattle.frame_law.proofs.BringLemmas.{brought}
 use Rattle.frame_law.proofs.UpLemmas.{up}
@@ -74,3 +80,33 @@ pub at_kept : (c c' : ℕ → Cell) (es : Execs) (i : ℕ) (t : List Entry) → 
 at_kept c c' None_left i t h s = tt
 at_kept c c' (Then e es) zero t h s = stands_kept c c' e t (λ q g. h q (yes_left (nodes e) (nodes_all es) q g)) s
 at_kept c c' (Then e es) (suc i) t h s = at_kept c c' es i t (λ q g. h q (yes_right (nodes e) (nodes_all es) q g)) s
+
+-- ---- where the run can go on, without an entry
+
+inside_of_next : (e : Exec) (t : List Entry) (m : ℕ) → has (next e t) m ≡ true → has (nodes e) m ≡ true
+inside_of_next e t m h = go (has (nodes e) m) refl
+  where
+    go : (b : Bool) → has (nodes e) m ≡ b → has (nodes e) m ≡ true
+    go true g = g
+    go false g = absurd (clash (has (next e t) m) h (not_within (next e t) (nodes e) m (next_within e t) g))
+
+pub offers_there : (c : ℕ → Cell) (e : Exec) (t : List Entry) (m : ℕ) → AreDistinct (nodes e) → Part e t → Stands c e t → has (next e t) m ≡ true → offer e t m ≡ offer_by c (executable_at e m) m
+offers_there c e t m d p s h = offer_from_frames c e t m (apart e d) p s h ∙ offered_at c e m (inside_of_next e t m h)
+
+pub next_there : (c : ℕ → Cell) (e : Exec) (t : List Entry) (m : ℕ) → AreDistinct (nodes e) → Part e t → Stands c e t → has (next e t) m ≡ true → has (next_by c (executable_at e m)) m ≡ true
+next_there c e t m d p s h = by_node c e m d (sym (ap (λ (l : List ℕ). has l m) (next_from_frames c e t (apart e d) p s)) ∙ h)
+
+-- ---- the entries of a workingstep
+
+same_yes : (j m : ℕ) → j ≡ m → (j == m) ≡ true
+same_yes j m e = grind (arith, nat_tests)
+
+work_said : (o : Option ℕ) (m : ℕ) (x : Entry) → IsOffered (offer_of_work o) m x → stage_step m o x ≡ blocks_after x
+work_said None m (Dispatch j v) h = rw (same_yes j m h) refl
+work_said None m x h = absurd h
+work_said (Some k) m (Block j i b) h = rw (same_yes j m h.0, h.1) refl
+work_said (Some k) m (End j) h = rw (same_yes j m h) refl
+work_said (Some k) m x h = absurd h
+
+pub work_after_as : (c : ℕ → Cell) (e : Exec) (t : List Entry) (x : Entry) (m : ℕ) → Follows c e t x m → executable_at e m ≡ Work m → stage_step m (stage_of (c m)) x ≡ blocks_after x
+work_after_as c e t x m f h = work_said (stage_of (c m)) m x (subst (λ (g : Exec). IsOffered (offer_by c g m) m x) h (offered_as c e t x m f))

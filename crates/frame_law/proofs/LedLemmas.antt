@@ -1,8 +1,8 @@
 -- The executable where opening leads is found in the tree at its own number.
-use Rattle.std.specs.Prelude.{◌≡◌, ◌⊎◌, ◌==◌, if◌then◌else◌, ℕ, zero, suc, Bool, true, false, [], ◌∷◌, ◌++◌, Option, Some, None}
+use Rattle.std.specs.Prelude.{◌≡◌, ◌⊎◌, ◌==◌, if◌then◌else◌, ℕ, List, zero, suc, Bool, true, false, [], ◌∷◌, ◌++◌, Option, Some, None}
 use Rattle.std.proofs.Common.{refl, sym, ◌∙◌, ap, subst, inl, inr}
 use Rattle.exec_tree.specs.Exec.{Exec, Work, Leaf, Plan, Par, NonSeq, Sel, If, While, Execs, None_left, Then, nodes, nodes_all, has, number_or_none, AreDistinct}
-use Rattle.trace_law.specs.Next.{next}
+use Rattle.trace_law.specs.Next.{first_of_two, next, next_in_order}
 use Rattle.trace_law.specs.Frames.{is_shared}
 use Rattle.trace_law.specs.Leading.{has_none, leads, leads_first}
 use Rattle.trace_law.proofs.StepLemmas.{distinct_left, distinct_right}
@@ -107,3 +107,43 @@ behind_found_in e n p es i r d h own =
     let de = distinct_right (number_or_none n) (nodes_all es) dp in
     let g = behind_found es i _ r de (of_elements (behind es i) r (behind_distinct es i de) own) in
     in_tree e (Plan n es) (leads (Plan None (behind es i))) p r d h (in_plan n es _ r dp g)
+
+-- ---- it has a number, where it has something to do
+
+abbrev HasNumber : Exec → Type 0
+HasNumber e = (r : ℕ) × (own_number e ≡ Some r)
+
+none_is : (l : List ℕ) → has_none l ≡ true → l ≡ []
+none_is [] h = refl
+none_is (n ∷ l) h = absurd (cc)
+
+some_is : (l : List ℕ) → has_none l ≡ false → l ≡ [] → ⊥
+some_is [] h e = cc
+some_is (n ∷ l) h e = cc
+
+number_or : (b : Bool) (f g : Exec) → (b ≡ true → HasNumber f) → (b ≡ false → HasNumber g) → HasNumber (if b then f else g)
+number_or true f g h i = h refl
+number_or false f g h i = i refl
+
+mutual
+  pub leads_numbered : (e : Exec) → (next e [] ≡ [] → ⊥) → (r : ℕ) × (own_number (leads e) ≡ Some r)
+  leads_numbered (Work n) h = (n, refl)
+  leads_numbered (Leaf n k) h = (n, refl)
+  leads_numbered (Plan n es) h = order_numbered es (Plan n es) h
+  leads_numbered (Par n es) h = number_or (is_shared es) (Par n es) (leads_first es (Par n es)) (λ b. (n, refl)) (λ b. first_numbered es (Par n es) (n, refl))
+  leads_numbered (NonSeq n es) h = (n, refl)
+  leads_numbered (Sel n es) h = (n, refl)
+  leads_numbered (If n a b) h = (n, refl)
+  leads_numbered (While n a) h = (n, refl)
+
+  order_numbered : (es : Execs) (itself : Exec) → (next_in_order es [] ≡ [] → ⊥) → HasNumber (leads_first es itself)
+  order_numbered None_left itself h = absurd (h refl)
+  order_numbered (Then e es) itself h =
+      number_or (has_none (next e [])) (leads_first es itself) (leads e)
+      (λ b. order_numbered es itself (λ g. h (ap (λ (l : List ℕ). first_of_two l (next_in_order es [])) (none_is (next e []) b) ∙ g)))
+      (λ b. leads_numbered e (some_is (next e []) b))
+
+  first_numbered : (es : Execs) (itself : Exec) → HasNumber itself → HasNumber (leads_first es itself)
+  first_numbered None_left itself h = h
+  first_numbered (Then e es) itself h =
+      number_or (has_none (next e [])) (leads_first es itself) (leads e) (λ b. first_numbered es itself h) (λ b. leads_numbered e (some_is (next e []) b))

@@ -1,11 +1,12 @@
 -- What is written on the way up from a node that is over.
-use Rattle.std.specs.Prelude.{◌≡◌, ◌==◌, ◌-◌, if◌then◌else◌, ℕ, false, List, [], ◌∷◌, ◌++◌, length, Some}
+use Rattle.std.specs.Prelude.{◌≡◌, ◌==◌, ◌+◌, ◌-◌, if◌then◌else◌, ℕ, false, List, [], ◌∷◌, ◌++◌, length, Option, Some, None}
 use Rattle.exec_tree.specs.Exec.{Exec, Work, Leaf, Plan, Par, NonSeq, Sel, If, While, Execs, None_left, Then, nodes, nodes_all, has, AreDistinct}
 use Rattle.trace_law.specs.Of.{number_of}
 use Rattle.trace_law.specs.Part.{Part}
 use Rattle.trace_law.specs.Cells.{Cell, Picked, Left, picked, next_by, WhereTrue}
 use Rattle.trace_law.specs.Frames.{left, Stands, StandsInOrder, Goes}
 use Rattle.run_log.specs.declared.entry.Entry.{Entry}
+use Rattle.run_log.specs.declared.entry.Entry.TheVariants.{Dispatch, Block}
 use Rattle.frame_law.specs.Onward.{Onward, Done, Opens, Joins, PicksOn, TestsAgain}
 
 -- the cells of all other nodes are as they were
@@ -66,3 +67,9 @@ abbrev mutual
   pub AreUnpickedAll : (ℕ → Cell) → Execs → Type 0
   AreUnpickedAll c None_left = Unit {0}
   AreUnpickedAll c (Then e es) = AreUnpicked c e × AreUnpickedAll c es
+
+-- the blocks that a workingstep has after an entry of it, where it isn't over
+abbrev pub blocks_after : Entry → Option ℕ
+blocks_after (Dispatch n v) = Some 0
+blocks_after (Block n k b) = Some (k + 1)
+blocks_after _ = None

@@ -1,17 +1,19 @@
 //! Laws of frames by an entry's own node. Each function's contract is the law, and its body is empty.
 
 ghost use Rattle.std.specs.Prelude.{◌≡◌, ℕ, true, List, [], ◌∷◌, ◌++◌, Some};
-ghost use Rattle.exec_tree.specs.Exec.{Exec, Execs, nodes, nodes_all, has, AreDistinct};
+ghost use Rattle.exec_tree.specs.Exec.{Exec, Work, Execs, nodes, nodes_all, has, AreDistinct};
 ghost use Rattle.trace_law.specs.Of.{number_of};
+ghost use Rattle.trace_law.specs.Part.{Part};
+ghost use Rattle.trace_law.specs.State.{stage_step};
 ghost use Rattle.trace_law.specs.Next.{next};
-ghost use Rattle.trace_law.specs.Offer.{IsOffered, offer_by};
-ghost use Rattle.trace_law.specs.Cells.{Cell, next_by, AreKept};
+ghost use Rattle.trace_law.specs.Offer.{IsOffered, offer, offer_by};
+ghost use Rattle.trace_law.specs.Cells.{Cell, stage_of, next_by, AreKept};
 ghost use Rattle.trace_law.specs.Coming.{came, Changes};
 ghost use Rattle.trace_law.specs.Frames.{Stands, StandsAt, Goes};
 ghost use Rattle.run_log.specs.declared.entry.Entry.{Entry};
 ghost use Rattle.frame_law.specs.Executable.{executable_at};
 ghost use Rattle.frame_law.specs.Onward.{Onward, Done, onward, brings};
-ghost use Rattle.frame_law.specs.Way.{Follows, Writes, AreUnpicked, AreKeptBut, touched, along, Ran};
+ghost use Rattle.frame_law.specs.Way.{Follows, Writes, AreUnpicked, AreKeptBut, touched, along, Ran, blocks_after};
 
 /// What comes in by an entry is told at its own node: by what the node is, and where the run goes on from it.
 pub fn what_comes_in_at_a_node()
@@ -29,10 +31,17 @@ pub fn frames_stand_by_a_node()
     ensures came { (e : Exec) (t : List Entry) (x : Entry) (m : ℕ) (c : ℕ → Cell) → Follows c e t x m → Changes (next e t) (next e (t ++ x ∷ [])) m (came c (executable_at e m) x (brings c (onward e Done m))) }
 {}
 
+/// Where a run can go on at a node, the node's own frame says so, and what the node does next.
+pub fn a_node_does_what_its_frame_says()
+    ensures next { (e : Exec) (t : List Entry) (m : ℕ) (c : ℕ → Cell) → AreDistinct (nodes e) → Part e t → Stands c e t → has (next e t) m ≡ true → has (next_by c (executable_at e m)) m ≡ true }
+    ensures offer { (e : Exec) (t : List Entry) (m : ℕ) (c : ℕ → Cell) → AreDistinct (nodes e) → Part e t → Stands c e t → has (next e t) m ≡ true → offer e t m ≡ offer_by c (executable_at e m) m }
+{}
+
 /// An entry that goes on is what its own node does next, and the node can go on, by the node's own frame.
 pub fn an_entry_is_what_its_node_does()
     ensures next { (e : Exec) (t : List Entry) (x : Entry) (m : ℕ) (c : ℕ → Cell) → Follows c e t x m → has (next_by c (executable_at e m)) m ≡ true }
     ensures offered { (e : Exec) (t : List Entry) (x : Entry) (m : ℕ) (c : ℕ → Cell) → Follows c e t x m → IsOffered (offer_by c (executable_at e m) m) m x }
+    ensures workingstep { (e : Exec) (t : List Entry) (x : Entry) (m : ℕ) (c : ℕ → Cell) → Follows c e t x m → executable_at e m ≡ Work m → stage_step m (stage_of (c m)) x ≡ blocks_after x }
 {}
 
 /// Where nodes ns that lie apart from the way were written first, from c to d, and then the way was gone, from d to c', that is as if it were gone from c: what was

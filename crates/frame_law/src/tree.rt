@@ -3,7 +3,7 @@
 ghost use Rattle.std.specs.Prelude.{◌≡◌, ℕ, true, [], ◌++◌, Option, Some, None};
 ghost use Rattle.exec_tree.specs.Exec.{Exec, Plan, Par, NonSeq, Sel, If, While, Execs, None_left, nodes, has, count, AreDistinct};
 ghost use Rattle.trace_law.specs.Cells.{Cell, Picked};
-ghost use Rattle.trace_law.specs.Next.{next_in_order};
+ghost use Rattle.trace_law.specs.Next.{next, next_in_order};
 ghost use Rattle.trace_law.specs.Frames.{is_shared, Stands};
 ghost use Rattle.trace_law.specs.Leading.{leads};
 ghost use Rattle.frame_law.specs.Executable.{executable_at, own_number, element, behind};
@@ -26,9 +26,10 @@ pub fn unpicked_at_each_node()
     ensures { (e : Exec) (c : ℕ → Cell) → AreDistinct (nodes e) → ((n : ℕ) → has (nodes e) n ≡ true → executable_at e n ≡ NonSeq n None_left → c n ≡ Picked []) → AreUnpicked c e }
 {}
 
-/// The executable where opening leads is found at its own number: from a node, from an executable of the tree, and from the elements behind one of a plan.
+/// The executable where opening leads has a number where it has something to do, and is found at it: from a node, from an executable of the tree, and from the elements behind one of a plan.
 pub fn where_it_leads_is_found()
     ensures within { (e : Exec) (r : ℕ) → AreDistinct (nodes e) → own_number (leads e) ≡ Some r → (has (nodes e) r ≡ true) × (executable_at e r ≡ leads e) }
+    ensures number { (e : Exec) → (next e [] ≡ [] → ⊥) → (r : ℕ) × (own_number (leads e) ≡ Some r) }
     ensures tree { (e : Exec) (p r : ℕ) → AreDistinct (nodes e) → own_number (leads (executable_at e p)) ≡ Some r → executable_at e r ≡ leads (executable_at e p) }
     ensures elements { (e : Exec) (number : Option ℕ) (p : ℕ) (es : Execs) (i r : ℕ) → AreDistinct (nodes e) → executable_at e p ≡ Plan number es → own_number (leads (Plan None (behind es i))) ≡ Some r → executable_at e r ≡ leads (Plan None (behind es i)) }
 {}
