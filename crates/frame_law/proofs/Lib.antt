@@ -12,4 +12,5 @@ pub mod UnpickedLemmas
 pub mod ThroughLemmas
 pub mod StepUpLemmas
 pub mod LedLemmas
+pub mod GoingLemmas
 pub mod Rows

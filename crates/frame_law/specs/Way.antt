@@ -37,6 +37,11 @@ Ran c c' (Joins n k) = (c' n ≡ Left (left (c n) - 1)) × WhereTrue (left (c n)
 Ran c c' (PicksOn n total k) = WhereTrue (length (picked (c n)) == total) (Ran c c' k) (Unit {0})
 Ran c c' (TestsAgain n) = Unit {0}
 
+-- the way from k on was gone, and no cell but those that are written there has changed
+pub record IsGone (c : ℕ → Cell) (k : Onward) (c' : ℕ → Cell) : Type 0 where
+  pub ran : Ran c c' k
+  pub kept : AreKeptBut c c' (touched c k)
+
 -- by the entry x the executable f has gone from c to c', where it is over the way from k on was gone too, and no other cell is written
 pub record Writes (c : ℕ → Cell) (f : Exec) (k : Onward) (x : Entry) (c' : ℕ → Cell) : Type 0 where
   pub goes : Goes c f x c'

@@ -2,6 +2,7 @@
 //! at an entry's own node and on the way up from it. The definitions stand in specs/; the functions of `laws` carry the laws.
 #![tactic(auto)]
 
+pub mod going;
 pub mod kinds;
 pub mod laws;
 pub mod tree;
