@@ -13,4 +13,5 @@ pub mod ThroughLemmas
 pub mod StepUpLemmas
 pub mod LedLemmas
 pub mod GoingLemmas
+pub mod OpenedLemmas
 pub mod Rows

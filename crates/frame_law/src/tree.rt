@@ -1,14 +1,14 @@
 //! Laws of the tree that make its table of ways, and let what it says be shown node by node. Each function's contract is the law, and its body is empty.
 
-ghost use Rattle.std.specs.Prelude.{◌≡◌, ℕ, true, [], ◌++◌, Option, Some, None};
-ghost use Rattle.exec_tree.specs.Exec.{Exec, Plan, Par, NonSeq, Sel, If, While, Execs, None_left, nodes, has, count, AreDistinct};
+ghost use Rattle.std.specs.Prelude.{◌≡◌, ℕ, true, false, [], ◌++◌, Option, Some, None};
+ghost use Rattle.exec_tree.specs.Exec.{Exec, Plan, Par, NonSeq, Sel, If, While, Execs, None_left, nodes, nodes_all, has, count, AreDistinct};
 ghost use Rattle.trace_law.specs.Cells.{Cell, Picked};
-ghost use Rattle.trace_law.specs.Next.{next, next_in_order};
-ghost use Rattle.trace_law.specs.Frames.{is_shared, Stands};
+ghost use Rattle.trace_law.specs.Next.{next, next_in_order, next_at};
+ghost use Rattle.trace_law.specs.Frames.{is_shared, Stands, StandsAt};
 ghost use Rattle.trace_law.specs.Leading.{leads};
 ghost use Rattle.frame_law.specs.Executable.{executable_at, own_number, element, behind};
 ghost use Rattle.frame_law.specs.Onward.{Onward, Done, Opens, PicksOn, TestsAgain, opened_or, joined_or, onward};
-ghost use Rattle.frame_law.specs.Way.{AreUnpicked, AreUnpickedAll, along, Ran};
+ghost use Rattle.frame_law.specs.Way.{AreKeptBut, AreUnpicked, AreUnpickedAll, IsGone, along};
 
 /// The way up from a node lies apart from the node and what is within, and passes no node twice.
 pub fn the_way_lies_apart()
@@ -34,10 +34,26 @@ pub fn where_it_leads_is_found()
     ensures elements { (e : Exec) (number : Option ℕ) (p : ℕ) (es : Execs) (i r : ℕ) → AreDistinct (nodes e) → executable_at e p ≡ Plan number es → own_number (leads (Plan None (behind es i))) ≡ Some r → executable_at e r ≡ leads (Plan None (behind es i)) }
 {}
 
-/// To open where an executable leads, or elements in order, is to open these.
+/// Where that is so of an executable, it is so of what is found in it, and of elements of each and of those behind it.
+pub fn unpicked_within()
+    ensures found { (e : Exec) (m : ℕ) (c : ℕ → Cell) → AreUnpicked c e → AreUnpicked c (executable_at e m) }
+    ensures elements { (n : ℕ) (es : Execs) (c : ℕ → Cell) → AreUnpicked c (NonSeq n es) → AreUnpickedAll c es }
+    ensures element { (es : Execs) (i : ℕ) (c : ℕ → Cell) → AreUnpickedAll c es → AreUnpicked c (element es i) }
+    ensures behind { (es : Execs) (i : ℕ) (c : ℕ → Cell) → AreUnpickedAll c es → AreUnpickedAll c (behind es i) }
+{}
+
+/// Element i, as trace_law's words for it have it.
+pub fn an_element_is_opened()
+    ensures next { (es : Execs) (i : ℕ) → next_at es i [] ≡ next (element es i) [] }
+    ensures stands { (es : Execs) (i : ℕ) (c : ℕ → Cell) → Stands c (element es i) [] → StandsAt c es i [] }
+    ensures within { (es : Execs) (i q : ℕ) → has (nodes_all es) q ≡ false → has (nodes (element es i)) q ≡ false }
+{}
+
+/// To open where an executable leads, or elements in order, is to open these; and what is opened lies within.
 pub fn what_leads_is_opened()
     ensures stands { (e : Exec) (c : ℕ → Cell) → AreUnpicked c e → Stands c (leads e) [] → Stands c e [] }
-    ensures elements { (es : Execs) (c c' : ℕ → Cell) → AreUnpickedAll c' es → Stands c' (leads (Plan None es)) [] → Ran c c' (Opens es) }
+    ensures within { (e : Exec) (q : ℕ) → has (nodes e) q ≡ false → has (nodes (leads e)) q ≡ false }
+    ensures elements { (es : Execs) (c c' : ℕ → Cell) → AreUnpickedAll c' es → Stands c' (leads (Plan None es)) [] → AreKeptBut c c' (nodes (leads (Plan None es))) → IsGone c (Opens es) c' }
 {}
 
 /// The root is found at its own number, and the way up from there is the one that goes on once the tree is over.
