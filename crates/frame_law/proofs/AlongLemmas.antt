@@ -7,6 +7,7 @@ use Rattle.trace_law.specs.Cells.{Cell, picked, AreKept, WhereTrue}
 use Rattle.trace_law.specs.Frames.{is_shared, left}
 use Rattle.trace_law.proofs.StepLemmas.{here, same_number, distinct_left, distinct_right, distinct_across}
 use Rattle.trace_law.proofs.ContinueLemmas.{clash}
+use Rattle.trace_law.proofs.FrameMoveLemmas.{where_map}
 use Rattle.trace_law.proofs.StayLemmas.{not_true}
 use Rattle.frame_law.specs.Executable.{executable_at, executable_among}
 use Rattle.frame_law.specs.Onward.{Onward, Done, Opens, Joins, PicksOn, TestsAgain, opened_or, joined_or, onward, onward_in_order, onward_among, brings}
@@ -114,21 +115,17 @@ Agree c d ns = (q : ℕ) → has ns q ≡ true → d q ≡ c q
 agree_rest : (c d : ℕ → Cell) (n : ℕ) (ns : List ℕ) → Agree c d (n ∷ ns) → Agree c d ns
 agree_rest c d n ns a = λ q h. a q (yes_right (n ∷ []) ns q h)
 
-true_map : (b : Bool) (P Q : Type 0) → (P → Q) → WhereTrue b P (Unit {0}) → WhereTrue b Q (Unit {0})
-true_map true P Q f w = f w
-true_map false P Q f w = tt
-
 ran_same : (c d c' : ℕ → Cell) (k : Onward) → Agree c d (along k) → Ran d c' k → Ran c c' k
 ran_same c d c' Done a r = tt
 ran_same c d c' (Opens es) a r = r
 ran_same c d c' (Joins n k) a r =
     let e : d n ≡ c n = a n (self n (along k)) in (
       rw e at r.0,
-      true_map (left (c n) == 1) _ _ (λ z. ran_same c d c' k (agree_rest c d n (along k) a) z) (subst (λ (w : Cell). WhereTrue (left w == 1) (Ran d c' k) (Unit {0})) e r.1),
+      where_map (left (c n) == 1) _ _ (λ z. ran_same c d c' k (agree_rest c d n (along k) a) z) (subst (λ (w : Cell). WhereTrue (left w == 1) (Ran d c' k) (Unit {0})) e r.1),
     )
 ran_same c d c' (PicksOn n total k) a r =
     let e : d n ≡ c n = a n (self n (along k)) in
-    true_map (length (picked (c n)) == total) _ _ (λ z. ran_same c d c' k (agree_rest c d n (along k) a) z)
+    where_map (length (picked (c n)) == total) _ _ (λ z. ran_same c d c' k (agree_rest c d n (along k) a) z)
     (subst (λ (w : Cell). WhereTrue (length (picked w) == total) (Ran d c' k) (Unit {0})) e r)
 ran_same c d c' (TestsAgain n) a r = tt
 

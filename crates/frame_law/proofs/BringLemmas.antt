@@ -12,7 +12,8 @@ use Rattle.run_log.specs.declared.entry.Entry.{Entry}
 use Rattle.trace_law.proofs.ArriveLemmas.{if_some_none}
 use Rattle.frame_law.specs.Executable.{executable_at, executable_among}
 use Rattle.frame_law.specs.Onward.{Onward, PicksOn, TestsAgain, opened_or, joined_or, onward, onward_in_order, onward_among, brings}
-use Rattle.frame_law.proofs.OutsideLemmas.{of_number, other_pick, other_test}
+use Rattle.trace_law.proofs.AfterLemmas.{of_number}
+use Rattle.frame_law.proofs.OutsideLemmas.{other_pick, other_test}
 
 opened_brings : (c : ℕ → Cell) (l : List ℕ) (es : Execs) (k : Onward) → next_in_order es [] ≡ l → brings c (opened_or l es k) ≡ first_of_two l (brings c k)
 opened_brings c [] es k e = refl

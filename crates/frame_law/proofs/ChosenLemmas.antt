@@ -5,15 +5,12 @@ use Rattle.exec_tree.specs.Exec.{Exec, Work, Leaf, Plan, Par, NonSeq, Sel, If, W
 use Rattle.trace_law.specs.Next.{first_of_two, next_of_last}
 use Rattle.trace_law.specs.Cells.{Cell, Cutting, Going, Over, Picked, AnsweredBy, Left, if_going, picked, answer, after_picks, after_answer, next_by, next_by_order, next_by_each, next_by_at}
 use Rattle.trace_law.proofs.StepLemmas.{distinct_left, distinct_right, distinct_across, has-append}
+use Rattle.trace_law.proofs.StepForthLemmas.{neither}
 use Rattle.trace_law.proofs.ContinueLemmas.{clash}
 use Rattle.frame_law.specs.Executable.{executable_at, executable_among}
 use Rattle.frame_law.proofs.OutsideLemmas.{no_left, no_right, not_first, not_rest}
 
 -- ---- lists without a node
-
-neither : (a b : Bool) → a ≡ false → b ≡ false → (a || b) ≡ false
-neither true b h i = absurd (cc)
-neither false b h i = i
 
 pub no_append : (a b : List ℕ) (q : ℕ) → has a q ≡ false → has b q ≡ false → has (a ++ b) q ≡ false
 no_append a b q h i = has-append a b q ∙ neither (has a q) (has b q) h i

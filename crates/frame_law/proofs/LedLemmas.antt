@@ -6,6 +6,7 @@ use Rattle.trace_law.specs.Next.{first_of_two, next, next_in_order}
 use Rattle.trace_law.specs.Frames.{is_shared}
 use Rattle.trace_law.specs.Leading.{has_none, leads, leads_first}
 use Rattle.trace_law.proofs.StepLemmas.{distinct_left, distinct_right}
+use Rattle.trace_law.proofs.LeadLemmas.{is_none, is_some}
 use Rattle.trace_law.proofs.OfferLemmas.{chosen_yes, chosen_no}
 use Rattle.frame_law.specs.Executable.{executable_at, executable_among, own_number, behind}
 use Rattle.frame_law.specs.Onward.{Done}
@@ -113,14 +114,6 @@ behind_found_in e n p es i r d h own =
 abbrev HasNumber : Exec → Type 0
 HasNumber e = (r : ℕ) × (own_number e ≡ Some r)
 
-none_is : (l : List ℕ) → has_none l ≡ true → l ≡ []
-none_is [] h = refl
-none_is (n ∷ l) h = absurd (cc)
-
-some_is : (l : List ℕ) → has_none l ≡ false → l ≡ [] → ⊥
-some_is [] h e = cc
-some_is (n ∷ l) h e = cc
-
 number_or : (b : Bool) (f g : Exec) → (b ≡ true → HasNumber f) → (b ≡ false → HasNumber g) → HasNumber (if b then f else g)
 number_or true f g h i = h refl
 number_or false f g h i = i refl
@@ -140,10 +133,10 @@ mutual
   order_numbered None_left itself h = absurd (h refl)
   order_numbered (Then e es) itself h =
       number_or (has_none (next e [])) (leads_first es itself) (leads e)
-      (λ b. order_numbered es itself (λ g. h (ap (λ (l : List ℕ). first_of_two l (next_in_order es [])) (none_is (next e []) b) ∙ g)))
-      (λ b. leads_numbered e (some_is (next e []) b))
+      (λ b. order_numbered es itself (λ g. h (ap (λ (l : List ℕ). first_of_two l (next_in_order es [])) (is_none (next e []) b) ∙ g)))
+      (λ b. leads_numbered e (is_some (next e []) b))
 
   first_numbered : (es : Execs) (itself : Exec) → HasNumber itself → HasNumber (leads_first es itself)
   first_numbered None_left itself h = h
   first_numbered (Then e es) itself h =
-      number_or (has_none (next e [])) (leads_first es itself) (leads e) (λ b. first_numbered es itself h) (λ b. leads_numbered e (some_is (next e []) b))
+      number_or (has_none (next e [])) (leads_first es itself) (leads e) (λ b. first_numbered es itself h) (λ b. leads_numbered e (is_some (next e []) b))

@@ -1,5 +1,5 @@
 -- Elements, and what is opened of them where opening leads.
-use Rattle.std.specs.Prelude.{◌≡◌, ◌==◌, if◌then◌else◌, ℕ, zero, suc, Bool, true, false, List, [], ◌∷◌, ◌++◌, None}
+use Rattle.std.specs.Prelude.{◌≡◌, ◌==◌, if◌then◌else◌, ℕ, zero, suc, Bool, true, false, [], None}
 use Rattle.std.proofs.Common.{refl}
 use Rattle.exec_tree.specs.Exec.{Exec, Work, Leaf, Plan, Par, NonSeq, Sel, If, While, Execs, None_left, Then, nodes, nodes_all, has, number_or_none}
 use Rattle.trace_law.specs.Next.{next, next_at}
@@ -11,7 +11,7 @@ use Rattle.frame_law.specs.Executable.{executable_at, executable_among, element,
 use Rattle.frame_law.specs.Onward.{Opens}
 use Rattle.frame_law.specs.Way.{AreKeptBut, AreUnpicked, AreUnpickedAll, IsGone}
 use Rattle.frame_law.proofs.OutsideLemmas.{no_left, no_right, not_rest}
-use Rattle.frame_law.proofs.ReachLemmas.{unpicked_all}
+use Rattle.frame_law.proofs.ReachLemmas.{unpicked_all, unpicked_elements}
 
 -- ---- element i
 
@@ -65,17 +65,13 @@ unpicked_or : (c : ℕ → Cell) (b : Bool) (f g : Exec) → AreUnpicked c f →
 unpicked_or c true f g p q = p
 unpicked_or c false f g p q = q
 
-pub elements_of : (c : ℕ → Cell) (n : ℕ) (es : Execs) → AreUnpicked c (NonSeq n es) → AreUnpickedAll c es
-elements_of c n None_left v = tt
-elements_of c n (Then e es) v = v
-
 mutual
   pub unpicked_found : (c : ℕ → Cell) (e : Exec) (m : ℕ) → AreUnpicked c e → AreUnpicked c (executable_at e m)
   unpicked_found c (Work n) m v = tt
   unpicked_found c (Leaf n k) m v = tt
   unpicked_found c (Plan n es) m v = unpicked_or c (has (number_or_none n) m) _ _ v (unpicked_found_among c es m v)
   unpicked_found c (Par n es) m v = unpicked_or c (n == m) _ _ v (unpicked_found_among c es m v)
-  unpicked_found c (NonSeq n es) m v = unpicked_or c (n == m) _ _ v (unpicked_found_among c es m (elements_of c n es v))
+  unpicked_found c (NonSeq n es) m v = unpicked_or c (n == m) _ _ v (unpicked_found_among c es m (unpicked_elements c n es v))
   unpicked_found c (Sel n es) m v = unpicked_or c (n == m) _ _ v (unpicked_found_among c es m v)
   unpicked_found c (If n a b) m v = unpicked_or c (n == m) _ _ v (unpicked_or c (has (nodes a) m) _ _ (unpicked_found c a m v.0) (unpicked_found c b m v.1))
   unpicked_found c (While n a) m v = unpicked_or c (n == m) _ _ v (unpicked_found c a m v)

@@ -11,6 +11,7 @@ use Rattle.run_log.specs.declared.entry.Entry.{Entry}
 use Rattle.trace_law.proofs.StepLemmas.{or_false_left, or_false_right, has-append, distinct_across, here}
 use Rattle.trace_law.proofs.StepForthLemmas.{not_same_back}
 use Rattle.trace_law.proofs.ContinueLemmas.{clash}
+use Rattle.trace_law.proofs.AfterLemmas.{of_number}
 use Rattle.trace_law.proofs.StayLemmas.{not_true}
 use Rattle.trace_law.proofs.FrameMoveLemmas.{no_pick, no_test}
 use Rattle.frame_law.specs.Executable.{executable_at, executable_among}
@@ -45,9 +46,6 @@ pub across_back : (ms ns : List ℕ) (q : ℕ) → AreDistinct (ms ++ ns) → ha
 across_back ms ns q d h = not_true (has ms q) (λ f. clash (has ns q) h (distinct_across ms ns q d f))
 
 -- ---- the entry's number
-
-pub of_number : (ns : List ℕ) (x : Entry) (m : ℕ) → number_of x ≡ Some m → is_of ns x ≡ has ns m
-of_number ns x m s = rw s refl
 
 pub has_number : (ns : List ℕ) (x : Entry) (m : ℕ) (b : Bool) → number_of x ≡ Some m → is_of ns x ≡ b → has ns m ≡ b
 has_number ns x m b s h = sym (of_number ns x m s) ∙ h

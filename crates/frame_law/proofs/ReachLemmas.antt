@@ -73,6 +73,10 @@ mutual
   unpicked_all c None_left v = tt
   unpicked_all c (Then e es) v = (unpicked c e v.0, unpicked_all c es v.1)
 
+pub unpicked_elements : (c : ℕ → Cell) (n : ℕ) (es : Execs) → AreUnpicked c (NonSeq n es) → AreUnpickedAll c es
+unpicked_elements c n None_left v = tt
+unpicked_elements c n (Then e es) v = v
+
 -- ---- an element of a plan, and those behind it
 
 pub first_reaches : (c c' : ℕ → Cell) (e : Exec) (es : Execs) (k : Onward) (l : List ℕ) → next_in_order es [] ≡ l → AreDistinct (nodes_all es) → AreUnpickedAll c' es → ((q : ℕ) → has (nodes e) q ≡ false → has (touched c (opened_or l es k)) q ≡ false → c' q ≡ c q) → Reaches c c' (next_by c' e) (nodes e) (opened_or l es k) → WhereEmpty (next_by c' e) (StandsInOrder c' es []) × Reaches c c' (first_of_two (next_by c' e) (next_by_order c' es)) (nodes e ++ nodes_all es) k

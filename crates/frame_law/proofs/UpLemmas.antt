@@ -24,8 +24,9 @@ use Rattle.trace_law.proofs.FrameMoveLemmas.{stands_kept, stands_step}
 use Rattle.frame_law.specs.Executable.{executable_at, executable_among}
 use Rattle.frame_law.specs.Onward.{Onward, PicksOn, TestsAgain, opened_or, joined_or, onward, onward_in_order, onward_among}
 use Rattle.frame_law.specs.Way.{touched, Writes, AreUnpicked, AreUnpickedAll}
-use Rattle.frame_law.proofs.OutsideLemmas.{no_left, no_right, not_first, yes_left, yes_right, across_back, of_number, has_number, other_pick, other_test, opened_outside, joined_outside, picks_outside}
-use Rattle.frame_law.proofs.ReachLemmas.{Reaches, own_reaches, writes_as, reaches_wider, kept_outside, kept_in_order, kept_among, first_reaches, par_count, par_reaches, picks_reaches, where_none, no_some}
+use Rattle.trace_law.proofs.AfterLemmas.{of_number}
+use Rattle.frame_law.proofs.OutsideLemmas.{no_left, no_right, not_first, yes_left, yes_right, across_back, has_number, other_pick, other_test, opened_outside, joined_outside, picks_outside}
+use Rattle.frame_law.proofs.ReachLemmas.{Reaches, own_reaches, writes_as, reaches_wider, kept_outside, kept_in_order, kept_among, first_reaches, par_count, par_reaches, picks_reaches, where_none, no_some, unpicked_elements}
 use Rattle.frame_law.proofs.ElementLemmas.{last_is, picked_next, sel_later, branch_later, body_later}
 
 -- nothing of these nodes is touched from k on
@@ -58,11 +59,6 @@ one_inside (Then e es) t x (inr q) = is_of_right (nodes e) (nodes_all es) x (one
 
 not_own : (ms ns : List ℕ) (x : Entry) (m : ℕ) → AreDistinct (ms ++ ns) → number_of x ≡ Some m → is_of ns x ≡ true → has ms m ≡ false
 not_own ms ns x m d num h = across_back ms ns m d (has_number ns x m true num h)
-
--- of a non-sequential each element
-unpicked_elements : (c : ℕ → Cell) (n : ℕ) (es : Execs) → AreUnpicked c (NonSeq n es) → AreUnpickedAll c es
-unpicked_elements c n None_left v = tt
-unpicked_elements c n (Then e es) v = v
 
 -- ---- one element goes, and the others are kept
 

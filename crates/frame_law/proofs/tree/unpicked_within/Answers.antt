@@ -1,11 +1,12 @@
-use Rattle.frame_law.proofs.OpenedLemmas.{unpicked_found, elements_of, unpicked_element, unpicked_behind}
+use Rattle.frame_law.proofs.OpenedLemmas.{unpicked_found, unpicked_element, unpicked_behind}
+use Rattle.frame_law.proofs.ReachLemmas.{unpicked_elements}
 use Rattle.frame_law.proofs.tree.unpicked_within.Goals as goal
 
 pub returns-clause-found : goal.returns-clause-found
 returns-clause-found g = λ e m c v. unpicked_found c e m v
 
 pub returns-clause-elements : goal.returns-clause-elements
-returns-clause-elements g = λ n es c v. elements_of c n es v
+returns-clause-elements g = λ n es c v. unpicked_elements c n es v
 
 pub returns-clause-element : goal.returns-clause-element
 returns-clause-element g = λ es i c v. unpicked_element c es i v
