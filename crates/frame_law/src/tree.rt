@@ -34,7 +34,7 @@ pub fn where_it_leads_is_found()
     ensures elements { (e : Exec) (number : Option ℕ) (p : ℕ) (es : Execs) (i r : ℕ) → AreDistinct (nodes e) → executable_at e p ≡ Plan number es → own_number (leads (Plan None (behind es i))) ≡ Some r → executable_at e r ≡ leads (Plan None (behind es i)) }
 {}
 
-/// Where that is so of an executable, it is so of what is found in it, and of elements of each and of those behind it.
+/// Where each non-sequential without elements in an executable has no picks, that is so of what is found in the executable, of each of its elements, and of those behind one.
 pub fn unpicked_within()
     ensures found { (e : Exec) (m : ℕ) (c : ℕ → Cell) → AreUnpicked c e → AreUnpicked c (executable_at e m) }
     ensures elements { (n : ℕ) (es : Execs) (c : ℕ → Cell) → AreUnpicked c (NonSeq n es) → AreUnpickedAll c es }
