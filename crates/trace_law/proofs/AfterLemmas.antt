@@ -33,7 +33,7 @@ no_test n (Pass m) h = refl
 no_test n (Note m) h = refl
 no_test n x h = absurd (cc)
 
-of_number : (ns : List ℕ) (x : Entry) (m : ℕ) → number_of x ≡ Some m → is_of ns x ≡ has ns m
+pub of_number : (ns : List ℕ) (x : Entry) (m : ℕ) → number_of x ≡ Some m → is_of ns x ≡ has ns m
 of_number ns x m e = rw e refl
 
 opens_enters : (c : ℕ → Cell) (l : List ℕ) (k : After) → enters c (opens_or l k) ≡ first_of_two l (enters c k)

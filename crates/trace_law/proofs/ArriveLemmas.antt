@@ -209,7 +209,7 @@ at_most [] b h = omega arith
 at_most (x ∷ a) [] h = absurd (let e : x ∷ a ≡ [] = h refl in cc)
 at_most (x ∷ a) (y ∷ b) h = omega arith
 
-going_at_most : (es : Execs) (t : List Entry) → ApartAll es → EachPart es t → going es t ≤ going es []
+pub going_at_most : (es : Execs) (t : List Entry) → ApartAll es → EachPart es t → going es t ≤ going es []
 going_at_most None_left t d p = omega arith
 going_at_most (Then e es) t d p =
     let u : List Entry = only (nodes e) t in
@@ -228,12 +228,12 @@ par_shared c n m es t x out d p q z false h s =
     let f = somebody es t x (next_has_of_one es t x p q) in
     z.0 out (omega (arith, a, b, f))
 
-of_last_more : (f : ℕ → List ℕ) (ks : List ℕ) (k : ℕ) → next_of_last f (ks ++ k ∷ []) ≡ f k
+pub of_last_more : (f : ℕ → List ℕ) (ks : List ℕ) (k : ℕ) → next_of_last f (ks ++ k ∷ []) ≡ f k
 of_last_more f [] k = refl
 of_last_more f (j ∷ []) k = refl
 of_last_more f (j ∷ i ∷ ks) k = of_last_more f (i ∷ ks) k
 
-length_more : (ks : List ℕ) (k : ℕ) → length (ks ++ k ∷ []) ≡ length ks + 1
+pub length_more : (ks : List ℕ) (k : ℕ) → length (ks ++ k ∷ []) ≡ length ks + 1
 length_more [] k = omega arith
 length_more (j ∷ ks) k = omega (arith, length_more ks k)
 

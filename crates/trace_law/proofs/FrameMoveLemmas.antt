@@ -43,7 +43,7 @@ branch_map None P P' Q Q' f g w = tt
 branch_map (Some true) P P' Q Q' f g w = f w
 branch_map (Some false) P P' Q Q' f g w = g w
 
-where_map : (b : Bool) (P Q : Type 0) → (P → Q) → WhereTrue b P (Unit {0}) → WhereTrue b Q (Unit {0})
+pub where_map : (b : Bool) (P Q : Type 0) → (P → Q) → WhereTrue b P (Unit {0}) → WhereTrue b Q (Unit {0})
 where_map true P Q f w = f w
 where_map false P Q f w = tt
 

@@ -10,11 +10,11 @@ use Rattle.trace_law.specs.Leading.{has_none, leads, leads_first, NoPicks, NoPic
 use Rattle.trace_law.proofs.FrameNextLemmas.{to_where_empty}
 use Rattle.trace_law.proofs.ArriveLemmas.{empty_left, empty_right, nil_right, nobody, nobody_back, not_shared}
 
-is_none : (l : List ℕ) → has_none l ≡ true → l ≡ []
+pub is_none : (l : List ℕ) → has_none l ≡ true → l ≡ []
 is_none [] h = refl
 is_none (n ∷ l) h = absurd (cc)
 
-is_some : (l : List ℕ) → has_none l ≡ false → l ≡ [] → ⊥
+pub is_some : (l : List ℕ) → has_none l ≡ false → l ≡ [] → ⊥
 is_some [] h e = cc
 is_some (n ∷ l) h e = cc
 
@@ -51,7 +51,7 @@ mutual
   void_stands c (If n a b) v h = absurd (cc)
   void_stands c (While n a) v h = absurd (cc)
 
-  void_in_order : (c : ℕ → Cell) (es : Execs) → NoPicksAll c es → next_in_order es [] ≡ [] → StandsInOrder c es []
+  pub void_in_order : (c : ℕ → Cell) (es : Execs) → NoPicksAll c es → next_in_order es [] ≡ [] → StandsInOrder c es []
   void_in_order c None_left v h = tt
   void_in_order c (Then e es) v h =
       let z = first_empty (next e []) (next_in_order es []) h in

@@ -58,7 +58,7 @@ loop_says whole part step test G (Tested false t ∷ s ∷ rest) f h q p = absur
 number_is : (n m : ℕ) (x : Entry) → number_of x ≡ Some m → is_of (n ∷ []) x ≡ true → n ≡ m
 number_is n m x e h = one n m (has_of (n ∷ []) x m true e h)
 
-other_number : (n m : ℕ) (ns : List ℕ) (x : Entry) → number_of x ≡ Some m → has ns n ≡ false → is_of ns x ≡ true → (n == m) ≡ false
+pub other_number : (n m : ℕ) (ns : List ℕ) (x : Entry) → number_of x ≡ Some m → has ns n ≡ false → is_of ns x ≡ true → (n == m) ≡ false
 other_number n m ns x e own inside = not_true (n == m) (λ f. clash _ inside (own_not n ns x own (own_is n m x f e)))
 
 mutual

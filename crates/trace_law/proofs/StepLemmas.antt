@@ -145,18 +145,18 @@ abbrev mutual
   ApartAll None_left = Unit {0}
   ApartAll (Then e es) = Apart e × ApartAll es × ((x : Entry) → is_of (nodes e) x ≡ true → is_of (nodes_all es) x ≡ false)
 
-distinct_left : (ms ns : List ℕ) → AreDistinct (ms ++ ns) → AreDistinct ms
+pub distinct_left : (ms ns : List ℕ) → AreDistinct (ms ++ ns) → AreDistinct ms
 distinct_left [] ns d = tt
 distinct_left (m ∷ ms) ns d = (or_false_left _ (has ns m) (sym (has-append ms ns m) ∙ d.0), distinct_left ms ns d.1)
 
-distinct_right : (ms ns : List ℕ) → AreDistinct (ms ++ ns) → AreDistinct ns
+pub distinct_right : (ms ns : List ℕ) → AreDistinct (ms ++ ns) → AreDistinct ns
 distinct_right [] ns d = d
 distinct_right (m ∷ ms) ns d = distinct_right ms ns d.1
 
 pub same_number : (m n : ℕ) → (m == n) ≡ true → m ≡ n
 same_number m n e = grind (arith, nat_tests)
 
-distinct_across : (ms ns : List ℕ) (n : ℕ) → AreDistinct (ms ++ ns) → has ms n ≡ true → has ns n ≡ false
+pub distinct_across : (ms ns : List ℕ) (n : ℕ) → AreDistinct (ms ++ ns) → has ms n ≡ true → has ns n ≡ false
 distinct_across [] ns n d h = absurd (cc)
 distinct_across (m ∷ ms) ns n d h = go (m == n) refl (distinct_across ms ns n d.1)
   where

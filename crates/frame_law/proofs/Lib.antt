@@ -1,0 +1,17 @@
+pub mod OutsideLemmas
+pub mod BringLemmas
+pub mod ReachLemmas
+pub mod ElementLemmas
+pub mod UpLemmas
+pub mod NodeLemmas
+pub mod ChosenLemmas
+pub mod OfferedLemmas
+pub mod KindLemmas
+pub mod AlongLemmas
+pub mod UnpickedLemmas
+pub mod ThroughLemmas
+pub mod StepUpLemmas
+pub mod LedLemmas
+pub mod GoingLemmas
+pub mod OpenedLemmas
+pub mod Rows
