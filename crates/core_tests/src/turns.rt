@@ -140,7 +140,21 @@ fn deeds(alloc: Global, log: &[Entry], actors: &[u8]) -> Result<String, Fail> {
     Ok(text)
 }
 
-/// What is found in these turns of a new core, and who did what.
+/// What is found in these turns of a core, and who did what.
+fn turns_of<N: RunName>(
+    alloc: Global,
+    core: &mut RunCore<N>,
+    rows: &String,
+) -> Result<String, Fail> {
+    let mut found = String::new(alloc);
+    for row in rows.lines() {
+        found.push_str(&turned(alloc, core, row)?)?;
+    }
+    found.push_str(&deeds(alloc, core.log(), core.actors())?)?;
+    Ok(found)
+}
+
+/// What is found in these turns of a new core. It holds the core, so it does nothing else: each way out of it drops a core.
 fn walked<N: RunName>(
     alloc: Global,
     project: Project,
@@ -153,12 +167,7 @@ fn walked<N: RunName>(
     requires limit { limit ≡ N.limit }
 {
     let mut core = RunCore::<N>::open(alloc, project, Script::new(alloc), limit)?;
-    let mut found = String::new(alloc);
-    for row in rows.lines() {
-        found.push_str(&turned(alloc, &mut core, row)?)?;
-    }
-    found.push_str(&deeds(alloc, core.log(), core.actors())?)?;
-    Ok(found)
+    turns_of(alloc, &mut core, rows)
 }
 
 fn found(alloc: Global, project: Project, limit: u32, rows: &str) -> Result<String, Fail>
