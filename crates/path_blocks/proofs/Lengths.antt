@@ -18,7 +18,7 @@ use Rattle.path_blocks.specs.Path.{path_of_shape, path_from, IsPathLength}
 use Rattle.path_blocks.proofs.CutsLemmas.{length-cuts}
 
 -- pieces of one length
-length_pieces : {X A : Type 0} (f : X → List A) (k : ℕ) → ((x : X) → length (f x) ≡ k) → (xs : List X) → length (flat_map f xs) ≡ length xs * k
+pub length_pieces : {X A : Type 0} (f : X → List A) (k : ℕ) → ((x : X) → length (f x) ≡ k) → (xs : List X) → length (flat_map f xs) ≡ length xs * k
 length_pieces f k each [] = omega arith
 length_pieces f k each (x ∷ xs) = length-append (f x) (flat_map f xs) ∙ omega (arith, each x, length_pieces f k each xs)
 
@@ -28,13 +28,13 @@ length-levels d = length-map (cuts (unsigned_abs d.axial) (unsigned_abs (d.z0 -�
 pub length-rows : (face : Face) → length (rows face) ≡ row_count face.step face.width
 length-rows face = length-enumerate_from 0 (offsets face) ∙ omega (arith, length-cuts (unsigned_abs face.step) (unsigned_abs face.width))
 
-length-plane_level : (d : Numbers) (face : Face) (z : ℤ) → length (plane_level d face z) ≡ 2 + 2 * row_count face.step face.width
+pub length-plane_level : (d : Numbers) (face : Face) (z : ℤ) → length (plane_level d face z) ≡ 2 + 2 * row_count face.step face.width
 length-plane_level d face z =
     let pieces = length_pieces (row d face z) 2 (λ r. refl) (rows face) in
     let whole = length-append (flat_map (row d face z) (rows face)) (rapid_to d.ret (last_end face) ∷ []) in
     omega (arith, pieces, whole, length-rows face)
 
-length-path_plane : (d : Numbers) (face : Face) → length (path_plane d face) ≡ 3 + level_count d.z0 d.bottom d.axial * (2 + 2 * row_count face.step face.width)
+pub length-path_plane : (d : Numbers) (face : Face) → length (path_plane d face) ≡ 3 + level_count d.z0 d.bottom d.axial * (2 + 2 * row_count face.step face.width)
 unfolding path_plane
 length-path_plane d face =
     let pieces = length_pieces (plane_level d face) (2 + 2 * row_count face.step face.width) (length-plane_level d face) (levels d) in
@@ -47,13 +47,13 @@ unfolding down_from
 length-down_from zero = refl
 length-down_from (suc n) = ap suc (length-down_from n)
 
-length-pocket_level : (d : Numbers) (r : Rectangle) (radial : ℤ) (z : ℤ) → length (pocket_level d r radial z) ≡ 2 + 5 * (innermost r radial + 1)
+pub length-pocket_level : (d : Numbers) (r : Rectangle) (radial : ℤ) (z : ℤ) → length (pocket_level d r radial z) ≡ 2 + 5 * (innermost r radial + 1)
 length-pocket_level d r radial z =
     let pieces = length_pieces (λ (j : ℕ). round d z (ring r radial j)) 5 (λ j. refl) (down_from (suc (innermost r radial))) in
     let whole = length-append (flat_map (λ (j : ℕ). round d z (ring r radial j)) (down_from (suc (innermost r radial)))) (rapid_over d.ret r ∷ []) in
     omega (arith, pieces, whole, length-down_from (suc (innermost r radial)))
 
-length-path_pocket : (d : Numbers) (r : Rectangle) (radial : ℤ) → length (path_pocket d r radial) ≡ 3 + level_count d.z0 d.bottom d.axial * (2 + 5 * (innermost r radial + 1))
+pub length-path_pocket : (d : Numbers) (r : Rectangle) (radial : ℤ) → length (path_pocket d r radial) ≡ 3 + level_count d.z0 d.bottom d.axial * (2 + 5 * (innermost r radial + 1))
 unfolding path_pocket
 length-path_pocket d r radial =
     let pieces = length_pieces (pocket_level d r radial) (2 + 5 * (innermost r radial + 1)) (length-pocket_level d r radial) (levels d) in
@@ -65,7 +65,7 @@ drilled : (b : Bool) (down : List Block) (dwell : Block) (up : List Block) → l
 drilled true down dwell up p q = length-append down (dwell ∷ up) ∙ omega arith
 drilled false down dwell up p q = length-append down up ∙ omega arith
 
-length-path_drill : (d : Numbers) (x y dwell : ℤ) → length (path_drill d x y dwell) ≡ block_count d.z0 d.bottom d.axial (Drill x y dwell)
+pub length-path_drill : (d : Numbers) (x y dwell : ℤ) → length (path_drill d x y dwell) ≡ block_count d.z0 d.bottom d.axial (Drill x y dwell)
 length-path_drill d x y dwell = drilled (int_lt (pos 0) dwell) (down_into d x y) (Dwell dwell) (up_from d x y) refl refl
 
 -- the path of a shape has so many blocks

@@ -1,3 +1,4 @@
 pub mod CutsLemmas
 pub mod Lengths
 pub mod Ranges
+pub mod PartLemmas

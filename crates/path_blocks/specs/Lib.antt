@@ -8,4 +8,5 @@ pub mod PathDrill
 pub mod PathPlane
 pub mod PathPocket
 pub mod Path
+pub mod Place
 pub mod WithinPocket

@@ -7,6 +7,7 @@
 //! | def | the definition of a workingstep, with its ranges, and the heights of its levels | `Def`, `Shape` |
 //! | step | a workingstep and its definition | `Step` |
 //! | plan | a definition with its blocks | `Plan` |
+//! | part | a definition with the blocks that were made so far | `PlanPart` |
 //! | count | how many blocks a path has, before there is a definition | `block_count` |
 //! | cuts | a whole that is gone through by equal cuts, and a last one | `cut`, `cut_count` |
 //!
@@ -19,6 +20,7 @@ mod count;
 mod cuts;
 mod def;
 mod limits;
+mod part;
 mod plan;
 mod step;
 
@@ -27,5 +29,6 @@ pub use count::block_count;
 pub use cuts::{cut, cut_count};
 pub use def::{Def, Shape};
 pub use limits::{MAX_BLOCKS, MAX_SIZE};
+pub use part::PlanPart;
 pub use plan::Plan;
 pub use step::Step;

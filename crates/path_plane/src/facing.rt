@@ -4,31 +4,63 @@ ghost use Rattle.std.specs.Prelude.{IsTrue};
 ghost use Rattle.path_blocks.specs.declared.def.Shape.TheVariants.{Plane};
 ghost use Rattle.path_blocks.specs.Range.{fits_shape};
 
-use path_blocks::{cut, cut_count};
+use path_blocks::{Def, Shape, cut, cut_count};
 
-/// The numbers of a planar face, as its shape has them.
+/// The numbers of a planar face, as its shape has them, and where its rows lie.
 #[derive(Clone, Copy)]
-pub(crate) struct Facing {
-    pub(crate) x: i64,
-    pub(crate) y: i64,
-    pub(crate) ux: i64,
-    pub(crate) uy: i64,
-    pub(crate) length: i64,
-    pub(crate) width: i64,
-    pub(crate) step: i64,
-    pub(crate) both: bool,
-    pub(crate) ghost fits: { IsTrue (fits_shape (Plane x y ux uy length width step both)) },
+pub struct Facing {
+    pub x: i64,
+    pub y: i64,
+    pub ux: i64,
+    pub uy: i64,
+    pub length: i64,
+    pub width: i64,
+    pub step: i64,
+    pub both: bool,
+    pub ghost fits: { IsTrue (fits_shape (Plane x y ux uy length width step both)) },
 }
 
 impl Facing {
-    ghost use Rattle.std.specs.Prelude.{◌≡◌, ◌<◌, ◌≤◌, ◌+◌, ◌*◌, ◌*ℤ◌, length, slice_get, Some, unsigned_abs};
+    ghost use Rattle.std.specs.Prelude.{IsTrue, ◌≡◌, ◌<◌, ◌≤◌, ◌+◌, ◌*◌, ◌*ℤ◌, length, slice_get, Some, unsigned_abs};
     ghost use Rattle.path_blocks.specs.declared.limits.TheConstants.{MAX_SIZE};
     ghost use Rattle.path_blocks.specs.Cuts.{cut_count};
-    ghost use Rattle.path_blocks.specs.PathPlane.{far_end, is_run_back, last_end, near_end, row_end, row_start, rows};
+    ghost use Rattle.path_blocks.specs.Kind.{is_plane};
+    ghost use Rattle.path_blocks.specs.Numbers.{numbers_of};
+    ghost use Rattle.path_blocks.specs.Path.{path_of};
+    ghost use Rattle.path_blocks.specs.PathPlane.{far_end, is_run_back, last_end, near_end, path_plane, row_end, row_start, rows};
     ghost use Rattle.path_plane.specs.Facing.{face_of};
 
+    /// The numbers of a definition whose shape is a planar face.
+    pub fn of(def: &Def) -> Facing
+        requires { IsTrue (is_plane def.now.shape) }
+        ensures { path_plane (numbers_of def.now) (face_of result) ≡ path_of def.now }
+    {
+        match def.shape {
+            Shape::Plane {
+                x,
+                y,
+                ux,
+                uy,
+                length,
+                width,
+                step,
+                both,
+            } => Facing {
+                x,
+                y,
+                ux,
+                uy,
+                length,
+                width,
+                step,
+                both,
+            },
+            Shape::Drill { .. } | Shape::Pocket { .. } => unreachable!(),
+        }
+    }
+
     /// The near end of the row so far across the course.
-    pub(crate) fn near_end(&self, offset: u64) -> (i64, i64)
+    pub fn near_end(&self, offset: u64) -> (i64, i64)
         requires { offset ≤ MAX_SIZE }
         ensures exact { result ≡ near_end (face_of self.now) offset }
         ensures near_x { unsigned_abs result.0 ≤ 2 * MAX_SIZE }
@@ -69,7 +101,7 @@ impl Facing {
     }
 
     /// Where the row with this index and offset begins.
-    pub(crate) fn row_start(&self, index: u64, offset: u64) -> (i64, i64)
+    pub fn row_start(&self, index: u64, offset: u64) -> (i64, i64)
         requires { offset ≤ MAX_SIZE }
         ensures { result ≡ row_start (face_of self.now) index offset }
     {
@@ -81,7 +113,7 @@ impl Facing {
     }
 
     /// Where the row with this index and offset ends.
-    pub(crate) fn row_end(&self, index: u64, offset: u64) -> (i64, i64)
+    pub fn row_end(&self, index: u64, offset: u64) -> (i64, i64)
         requires { offset ≤ MAX_SIZE }
         ensures { result ≡ row_end (face_of self.now) index offset }
     {
@@ -119,14 +151,15 @@ impl Facing {
     }
 
     /// How many rows lie side by side.
-    pub(crate) fn row_count(&self) -> u64
-        ensures { result ≡ length (rows (face_of self.now)) }
+    pub fn row_count(&self) -> u64
+        ensures exact { result ≡ length (rows (face_of self.now)) }
+        ensures few { result ≤ MAX_SIZE + 1 }
     {
         self.last_row() + 1
     }
 
     /// How far across the course the row with this index lies.
-    pub(crate) fn offset(&self, index: u64) -> u64
+    pub fn offset(&self, index: u64) -> u64
         requires { index < length (rows (face_of self.now)) }
         ensures exact { slice_get (rows (face_of self.now)) index ≡ Some (index, result) }
         ensures within { result ≤ MAX_SIZE }
@@ -139,7 +172,7 @@ impl Facing {
     }
 
     /// Where the last row ends.
-    pub(crate) fn last_end(&self) -> (i64, i64)
+    pub fn last_end(&self) -> (i64, i64)
         ensures { result ≡ last_end (face_of self.now) }
     {
         self.row_end(self.last_row(), self.breadth())

@@ -1,4 +1,5 @@
-//! The path of a planar face: the blocks that its definition stands for. The tests stand in the crate path_tests.
+//! The path of a planar face: the blocks that its definition stands for, and where the rows of a face lie. The tests stand in the
+//! crate path_tests.
 #![tactic(auto)]
 
 ghost use Rattle.std.specs.Prelude.{◌≡◌, ◌≤◌, ◌∷◌, [], ◌++◌, IfOk, IsTrue, OnOk};
@@ -11,9 +12,9 @@ ghost use Rattle.path_plane.specs.Facing.{face_of};
 
 mod facing;
 
-use crate::facing::Facing;
+pub use facing::Facing;
 use nc_base::NoMemory;
-use path_blocks::{Block, Def, Plan, Shape};
+use path_blocks::{Block, Def, Plan};
 use std::alloc::Global;
 
 /// Puts a rapid move to a point at the height `z`.
@@ -110,29 +111,5 @@ pub fn path(alloc: Global, def: &Def) -> Result<Plan, NoMemory>
     requires { IsTrue (is_plane def.now.shape) }
     ensures { IfOk result (λ plan. plan ≡ def.now) }
 {
-    match def.shape {
-        Shape::Plane {
-            x,
-            y,
-            ux,
-            uy,
-            length,
-            width,
-            step,
-            both,
-        } => {
-            let facing = Facing {
-                x,
-                y,
-                ux,
-                uy,
-                length,
-                width,
-                step,
-                both,
-            };
-            Ok(Plan::new(*def, blocks_of(alloc, def, &facing)?))
-        }
-        Shape::Drill { .. } | Shape::Pocket { .. } => unreachable!(),
-    }
+    Ok(Plan::new(*def, blocks_of(alloc, def, &Facing::of(def))?))
 }

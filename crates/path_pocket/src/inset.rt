@@ -4,31 +4,59 @@ ghost use Rattle.std.specs.Prelude.{IsTrue};
 ghost use Rattle.path_blocks.specs.declared.def.Shape.TheVariants.{Pocket};
 ghost use Rattle.path_blocks.specs.Range.{fits_shape};
 
+use path_blocks::{Def, Shape};
+
 /// The sides of a rectangle.
 #[derive(Clone, Copy)]
-pub(crate) struct Corners {
-    pub(crate) left: i64,
-    pub(crate) low: i64,
-    pub(crate) right: i64,
-    pub(crate) high: i64,
+pub struct Corners {
+    pub left: i64,
+    pub low: i64,
+    pub right: i64,
+    pub high: i64,
 }
 
-/// The numbers of a pocket, as its shape has them.
+/// The numbers of a pocket, as its shape has them, and where its rings lie.
 #[derive(Clone, Copy)]
-pub(crate) struct Inset {
-    pub(crate) left: i64,
-    pub(crate) low: i64,
-    pub(crate) right: i64,
-    pub(crate) high: i64,
-    pub(crate) radial: i64,
-    pub(crate) ghost fits: { IsTrue (fits_shape (Pocket left low right high radial)) },
+pub struct Inset {
+    pub left: i64,
+    pub low: i64,
+    pub right: i64,
+    pub high: i64,
+    pub radial: i64,
+    pub ghost fits: { IsTrue (fits_shape (Pocket left low right high radial)) },
 }
 
 impl Inset {
-    ghost use Rattle.std.specs.Prelude.{◌≡◌, ◌<◌, ◌≤◌, ◌+◌, ◌*◌, ◌-ℤ◌, min, unsigned_abs};
+    ghost use Rattle.std.specs.Prelude.{IsTrue, ◌≡◌, ◌<◌, ◌≤◌, ◌+◌, ◌*◌, ◌-ℤ◌, min, unsigned_abs};
     ghost use Rattle.path_blocks.specs.declared.limits.TheConstants.{MAX_SIZE};
-    ghost use Rattle.path_blocks.specs.PathPocket.{innermost, ring};
+    ghost use Rattle.path_blocks.specs.Kind.{is_pocket};
+    ghost use Rattle.path_blocks.specs.Numbers.{numbers_of};
+    ghost use Rattle.path_blocks.specs.Path.{path_of};
+    ghost use Rattle.path_blocks.specs.PathPocket.{innermost, path_pocket, ring};
     ghost use Rattle.path_pocket.specs.Inset.{rectangle_between, rectangle_of};
+
+    /// The numbers of a definition whose shape is a rectangular pocket.
+    pub fn of(def: &Def) -> Inset
+        requires { IsTrue (is_pocket def.now.shape) }
+        ensures { path_pocket (numbers_of def.now) (rectangle_of result) result.radial ≡ path_of def.now }
+    {
+        match def.shape {
+            Shape::Pocket {
+                left,
+                low,
+                right,
+                high,
+                radial,
+            } => Inset {
+                left,
+                low,
+                right,
+                high,
+                radial,
+            },
+            Shape::Drill { .. } | Shape::Plane { .. } => unreachable!(),
+        }
+    }
 
     /// How far apart the rings lie.
     fn ring_step(&self) -> u64
@@ -49,7 +77,7 @@ impl Inset {
     }
 
     /// The number of the innermost ring.
-    pub(crate) fn innermost(&self) -> u64
+    pub fn innermost(&self) -> u64
         ensures exact { result ≡ innermost (rectangle_of self.now) self.now.radial }
         ensures few { result ≤ 2 * MAX_SIZE }
     {
@@ -57,7 +85,7 @@ impl Inset {
     }
 
     /// The sides of the rectangle.
-    pub(crate) fn corners(&self) -> Corners
+    pub fn corners(&self) -> Corners
         ensures { rectangle_between result ≡ rectangle_of self.now }
     {
         Corners {
@@ -69,7 +97,7 @@ impl Inset {
     }
 
     /// The ring with this number, from the rectangle itself inwards.
-    pub(crate) fn ring(&self, number: u64) -> Corners
+    pub fn ring(&self, number: u64) -> Corners
         requires { number ≤ innermost (rectangle_of self.now) self.now.radial }
         ensures { rectangle_between result ≡ ring (rectangle_of self.now) self.now.radial number }
     {

@@ -1,4 +1,5 @@
-//! The path of a rectangular pocket: the blocks that its definition stands for. The tests stand in the crate path_tests.
+//! The path of a rectangular pocket: the blocks that its definition stands for, and where the rings of a pocket lie. The tests stand
+//! in the crate path_tests.
 #![tactic(auto)]
 
 ghost use Rattle.std.specs.Prelude.{◌≡◌, ◌≤◌, ◌∷◌, [], ◌++◌, All, IfOk, IsTrue, OnOk};
@@ -12,9 +13,9 @@ ghost use Rattle.path_pocket.specs.Inset.{rectangle_between, rectangle_of};
 
 mod inset;
 
-use crate::inset::{Corners, Inset};
+pub use inset::{Corners, Inset};
 use nc_base::NoMemory;
-use path_blocks::{Block, Def, Plan, Shape};
+use path_blocks::{Block, Def, Plan};
 use std::alloc::Global;
 
 /// Puts a rapid move to the lower left of a rectangle at the height `z`.
@@ -104,23 +105,5 @@ pub fn path(alloc: Global, def: &Def) -> Result<Plan, NoMemory>
     ensures exact { IfOk result (λ plan. plan ≡ def.now) }
     ensures within { IfOk result (λ plan. All (StaysWithin def.now.bottom def.now.shape) (path_of plan)) }
 {
-    match def.shape {
-        Shape::Pocket {
-            left,
-            low,
-            right,
-            high,
-            radial,
-        } => {
-            let inset = Inset {
-                left,
-                low,
-                right,
-                high,
-                radial,
-            };
-            Ok(Plan::new(*def, blocks_of(alloc, def, &inset)?))
-        }
-        Shape::Drill { .. } | Shape::Plane { .. } => unreachable!(),
-    }
+    Ok(Plan::new(*def, blocks_of(alloc, def, &Inset::of(def))?))
 }

@@ -5,7 +5,7 @@ use path_blocks::{Def, Shape};
 use std::test::Fail;
 
 /// A face of 100 mm by 50 mm along x, 2 mm deep, in rows 20 mm apart that run there and back.
-const FACE: Def = Def {
+pub(crate) const FACE: Def = Def {
     tool: 44,
     spindle: 20_000,
     feed: 40,
@@ -27,7 +27,7 @@ const FACE: Def = Def {
 };
 
 /// Its path.
-const FACE_PATH: &str = "T 44 20000\n\
+pub(crate) const FACE_PATH: &str = "T 44 20000\n\
     R 0 0 30000\n\
     R 0 0 5000\n\
     F 0 0 -2000 40\n\
@@ -47,7 +47,7 @@ fn rows_there_and_back(rt: HostRuntime) -> Result<(), Fail> {
 }
 
 /// A face against y, one way only, in two levels. Its width is two steps, and the row at the width is the third.
-const ONE_WAY: Def = Def {
+pub(crate) const ONE_WAY: Def = Def {
     tool: 7,
     spindle: -1,
     feed: 40,
@@ -69,7 +69,7 @@ const ONE_WAY: Def = Def {
 };
 
 /// Its path.
-const ONE_WAY_PATH: &str = "T 7 -1\n\
+pub(crate) const ONE_WAY_PATH: &str = "T 7 -1\n\
     R 10 20 9000\n\
     R 10 20 8000\n\
     F 10 20 -1000 40\n\
@@ -95,7 +95,7 @@ fn rows_one_way(rt: HostRuntime) -> Result<(), Fail> {
 }
 
 /// The face of the example plate: 120 mm along y and 100 mm across, 5 mm deep, in levels of 2.5 mm and rows 19 mm apart.
-const PLATE: Def = Def {
+pub(crate) const PLATE: Def = Def {
     tool: 40,
     spindle: 20_000,
     feed: 40,

@@ -6,7 +6,7 @@ use std::test::Fail;
 
 /// A hole with a dwell of half a second at its bottom. It is 14 mm deep and is cut in levels of 5 mm, which the path of a drilled
 /// hole doesn't show.
-const DWELLING: Def = Def {
+pub(crate) const DWELLING: Def = Def {
     tool: 44,
     spindle: 20_000,
     feed: 40,
@@ -23,7 +23,7 @@ const DWELLING: Def = Def {
 };
 
 /// Its path.
-const DWELLING_PATH: &str = "T 44 20000\n\
+pub(crate) const DWELLING_PATH: &str = "T 44 20000\n\
     R 10000 -20000 30000\n\
     R 10000 -20000 5000\n\
     F 10000 -20000 -15000 40\n\
@@ -37,7 +37,7 @@ fn a_hole_with_a_dwell(rt: HostRuntime) -> Result<(), Fail> {
 }
 
 /// Another hole, without a dwell.
-const PLAIN: Def = Def {
+pub(crate) const PLAIN: Def = Def {
     tool: 7,
     spindle: -12_500,
     feed: 1,
@@ -54,7 +54,7 @@ const PLAIN: Def = Def {
 };
 
 /// Its path.
-const PLAIN_PATH: &str = "T 7 -12500\n\
+pub(crate) const PLAIN_PATH: &str = "T 7 -12500\n\
     R -4000 0 50000\n\
     R -4000 0 50000\n\
     F -4000 0 -1 1\n\

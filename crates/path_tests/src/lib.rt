@@ -1,4 +1,4 @@
-//! Tests of paths, of logs and of the definitions of runs: path_drill, path_plane, path_pocket, run_log and trace_law.
+//! Tests of paths, of logs and of the definitions of runs: path_drill, path_plane, path_pocket, path_gen, run_log and trace_law.
 #![tactic(auto)]
 
 #[cfg(test)]
@@ -13,5 +13,7 @@ mod laws;
 mod logs;
 #[cfg(test)]
 mod paths;
+#[cfg(test)]
+mod pieces;
 #[cfg(test)]
 mod pockets;

@@ -3,7 +3,7 @@
 use crate::expected::expect;
 use nc_base::NoMemory;
 use nc_outside::MemorySink;
-use path_blocks::{Def, Plan, Shape};
+use path_blocks::{Block, Def, Plan, Shape};
 use run_log::write_blocks;
 use std::alloc::Global;
 use std::process::Abort;
@@ -18,11 +18,17 @@ fn plan_of(alloc: Global, def: &Def) -> Result<Plan, NoMemory> {
     }
 }
 
-// What is written for the blocks of a plan.
-fn text_of(alloc: Global, plan: &Plan) -> Result<MemorySink, Fail> {
+/// Stops unless this is what is written for the blocks, a line each.
+pub fn expect_text(
+    rt: &impl Abort,
+    alloc: Global,
+    blocks: &[Block],
+    text: &str,
+) -> Result<(), Fail> {
     let mut sink = MemorySink::new(alloc, 10_000)?;
-    write_blocks(plan.blocks(), &mut sink)?;
-    Ok(sink)
+    write_blocks(blocks, &mut sink)?;
+    expect(rt, sink.bytes(), text.as_bytes());
+    Ok(())
 }
 
 /// Stops unless the plan of a definition is its own and has so many blocks, as many as the definition says.
@@ -37,7 +43,6 @@ pub fn expect_count(rt: &impl Abort, alloc: Global, def: &Def, count: usize) -> 
 /// Stops unless the plan of a definition has these blocks, a line each.
 pub fn expect_path(rt: &impl Abort, alloc: Global, def: &Def, text: &str) -> Result<(), Fail> {
     let plan = plan_of(alloc, def)?;
-    let sink = text_of(alloc, &plan)?;
-    expect(rt, sink.bytes(), text.as_bytes());
+    expect_text(rt, alloc, plan.blocks(), text)?;
     expect_count(rt, alloc, def, text.lines().count())
 }

@@ -5,7 +5,7 @@ use path_blocks::{Def, Shape};
 use std::test::Fail;
 
 /// A pocket of 40 mm by 20 mm, 5 mm deep, for a tool of 10 mm, in rings 4 mm apart.
-const POCKET: Def = Def {
+pub(crate) const POCKET: Def = Def {
     tool: 44,
     spindle: 20_000,
     feed: 40,
@@ -24,7 +24,7 @@ const POCKET: Def = Def {
 };
 
 /// Its path.
-const POCKET_PATH: &str = "T 44 20000\n\
+pub(crate) const POCKET_PATH: &str = "T 44 20000\n\
     R -11000 -1000 30000\n\
     R -11000 -1000 5000\n\
     F -11000 -1000 -5000 40\n\
@@ -46,7 +46,7 @@ fn two_rings_from_the_inside_out(rt: HostRuntime) -> Result<(), Fail> {
 }
 
 /// A pocket of 10 mm by 10 mm for a tool of 10 mm.
-const POINT: Def = Def {
+pub(crate) const POINT: Def = Def {
     tool: 44,
     spindle: 20_000,
     feed: 40,
@@ -65,7 +65,7 @@ const POINT: Def = Def {
 };
 
 /// Its path.
-const POINT_PATH: &str = "T 44 20000\n\
+pub(crate) const POINT_PATH: &str = "T 44 20000\n\
     R 0 0 30000\n\
     R 0 0 5000\n\
     F 0 0 -5000 40\n\
@@ -82,7 +82,7 @@ fn a_pocket_as_wide_as_its_tool(rt: HostRuntime) -> Result<(), Fail> {
 }
 
 /// A square of 4 mm, 5 mm deep, in levels of 2 mm and rings 2 mm apart: two levels above the bottom, and a ring that is a point.
-const LEVELS: Def = Def {
+pub(crate) const LEVELS: Def = Def {
     tool: 7,
     spindle: 0,
     feed: 40,
@@ -101,7 +101,7 @@ const LEVELS: Def = Def {
 };
 
 /// Its path: in each level the point, and once round the square.
-const LEVELS_PATH: &str = "T 7 0\n\
+pub(crate) const LEVELS_PATH: &str = "T 7 0\n\
     R 2000 2000 9000\n\
     R 2000 2000 8000\n\
     F 2000 2000 -1000 40\n\
@@ -148,7 +148,7 @@ fn the_last_level_is_the_bottom(rt: HostRuntime) -> Result<(), Fail> {
 
 /// The pocket of the example plate: 50 mm by 80 mm for a tool of 20 mm, 30 mm deep with 0.5 mm left at the bottom and 1 mm at the
 /// sides, in levels of 6.5 mm and rings 5 mm apart.
-const PLATE: Def = Def {
+pub(crate) const PLATE: Def = Def {
     tool: 40,
     spindle: 20_000,
     feed: 40,

@@ -1,0 +1,5 @@
+mod Pieces
+mod Places
+mod Holes
+mod Faces
+mod Pockets

@@ -1,0 +1,22 @@
+use Rattle.std.proofs.Common.{◌∙◌, sym, ap, ℤ, ◌+◌, ◌*◌, ◌%◌, arith, rules, w64, FitsSigned}
+use Rattle.std.specs.Prelude.{slice_get}
+use Rattle.std.proofs.lemmas.Int.{to_z-of_z}
+use Rattle.std.proofs.Math.Nat.{mod-lt}
+use Rattle.path_blocks.specs.Numbers.{numbers_of}
+use Rattle.path_blocks.specs.PathPocket.{pocket_level}
+use Rattle.path_pocket.specs.Inset.{rectangle_of}
+use Rattle.path_gen.proofs.Pockets.{level_within, levels_at}
+use Rattle.path_gen.proofs.pocket.levels_block.Goals as goal
+
+pub level-requires : goal.level-requires
+level-requires c = level_within (numbers_of c.args.def.now) (rectangle_of c.args.inset.now) c.args.inset.now.radial c.innermost-inner.result c.args.index c.innermost-inner.ensures.exact c.requires
+
+pub level_block-requires-clause-index : goal.level_block-requires-clause-index
+level_block-requires-clause-index c = mod-lt c.args.index (omega arith)
+
+pub returns : goal.returns
+returns c =
+    let f : FitsSigned w64 c.level.result = search rules in
+    levels_at (numbers_of c.args.def.now) (rectangle_of c.args.inset.now) c.args.inset.now.radial c.innermost-inner.result c.args.index c.level.result c.innermost-inner.ensures.exact c.level.ensures
+    ∙ ap (λ (z : ℤ). slice_get (pocket_level (numbers_of c.args.def.now) (rectangle_of c.args.inset.now) c.args.inset.now.radial z) (c.args.index % (2 + 5 * (c.innermost-inner.result + 1)))) (sym (to_z-of_z w64 c.level.result f))
+    ∙ c.level_block.ensures
