@@ -91,21 +91,16 @@ fn shown(alloc: Global, standing: Standing, action: Option<Action>) -> Result<St
 }
 
 /// The entry of a turn of a channel, where there is one.
-fn acted<N: RunName>(
-    alloc: Global,
-    core: &mut RunCore<N>,
-    who: u8,
-    channel: u8,
-) -> Result<Option<Entry>, NoMemory> {
+fn acted<N: RunName>(core: &mut RunCore<N>, who: u8, channel: u8) -> Option<Entry> {
     if who >= 16 {
-        return Ok(None);
+        return None;
     }
     match core.standing() {
         Standing::Ready => match core.ready(channel) {
-            Some(_) => Ok(Some(core.act(alloc, who, channel)?)),
-            None => Ok(None),
+            Some(_) => Some(core.act(who, channel)),
+            None => None,
         },
-        _ => Ok(None),
+        _ => None,
     }
 }
 
@@ -123,7 +118,7 @@ fn who_and_channel(row: &str) -> (u8, u8) {
 fn turned<N: RunName>(alloc: Global, core: &mut RunCore<N>, row: &str) -> Result<String, Fail> {
     let (who, channel) = who_and_channel(row);
     let mut found = shown(alloc, core.standing(), core.ready(channel))?;
-    if let Some(entry) = acted(alloc, core, who, channel)? {
+    if let Some(entry) = acted(core, who, channel) {
         found.push_str("|")?;
         found.push_str(&line_of(alloc, entry)?)?;
     }

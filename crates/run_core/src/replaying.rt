@@ -55,7 +55,7 @@ fn turn<N: RunName>(core: &mut RunCore<N>, alloc: Global, channel: u8) -> Result
     match core.standing() {
         Standing::Ready => match core.ready(channel) {
             Some(_) => {
-                core.act(alloc, CALLER, channel)?;
+                core.act(CALLER, channel);
                 Ok(true)
             }
             None => Ok(false),
@@ -173,6 +173,7 @@ fn run<N: RunName>(
     limit: u32,
     schedule: &[u8],
 ) -> Result<(Log, Ending), NoMemory>
+    requires most { limit ≤ MAX_ENTRIES }
     requires limit { limit ≡ N.limit }
     requires anew { core.old.0 ≡ [] }
     ensures replayed { IfOk result (λ ran. ran.0 ≡ replay (rules_of N.project N.script) (channel_numbers N.project) schedule.now N.limit) }
@@ -213,7 +214,7 @@ fn replay_named<N: RunName>(
 /// project doesn't have makes nothing.
 ///
 /// # Errors
-/// `NoMemory` where there is none for the core, or for the plan of a step that is dispatched.
+/// `NoMemory` where there is none for the core, to judge or put an edit, or for the log.
 pub fn replay(
     alloc: Global,
     project: Project,
