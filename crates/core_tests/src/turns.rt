@@ -91,21 +91,16 @@ fn shown(alloc: Global, standing: Standing, action: Option<Action>) -> Result<St
 }
 
 /// The entry of a turn of a channel, where there is one.
-fn acted<N: RunName>(
-    alloc: Global,
-    core: &mut RunCore<N>,
-    who: u8,
-    channel: u8,
-) -> Result<Option<Entry>, NoMemory> {
+fn acted<N: RunName>(core: &mut RunCore<N>, who: u8, channel: u8) -> Option<Entry> {
     if who >= 16 {
-        return Ok(None);
+        return None;
     }
     match core.standing() {
         Standing::Ready => match core.ready(channel) {
-            Some(_) => Ok(Some(core.act(alloc, who, channel)?)),
-            None => Ok(None),
+            Some(_) => Some(core.act(who, channel)),
+            None => None,
         },
-        _ => Ok(None),
+        _ => None,
     }
 }
 
@@ -123,7 +118,7 @@ fn who_and_channel(row: &str) -> (u8, u8) {
 fn turned<N: RunName>(alloc: Global, core: &mut RunCore<N>, row: &str) -> Result<String, Fail> {
     let (who, channel) = who_and_channel(row);
     let mut found = shown(alloc, core.standing(), core.ready(channel))?;
-    if let Some(entry) = acted(alloc, core, who, channel)? {
+    if let Some(entry) = acted(core, who, channel) {
         found.push_str("|")?;
         found.push_str(&line_of(alloc, entry)?)?;
     }
@@ -140,7 +135,21 @@ fn deeds(alloc: Global, log: &[Entry], actors: &[u8]) -> Result<String, Fail> {
     Ok(text)
 }
 
-/// What is found in these turns of a new core, and who did what.
+/// What is found in these turns of a core, and who did what.
+fn turns_of<N: RunName>(
+    alloc: Global,
+    core: &mut RunCore<N>,
+    rows: &String,
+) -> Result<String, Fail> {
+    let mut found = String::new(alloc);
+    for row in rows.lines() {
+        found.push_str(&turned(alloc, core, row)?)?;
+    }
+    found.push_str(&deeds(alloc, core.log(), core.actors())?)?;
+    Ok(found)
+}
+
+/// What is found in these turns of a new core. It holds the core, so it does nothing else: each way out of it drops a core.
 fn walked<N: RunName>(
     alloc: Global,
     project: Project,
@@ -153,12 +162,7 @@ fn walked<N: RunName>(
     requires limit { limit ≡ N.limit }
 {
     let mut core = RunCore::<N>::open(alloc, project, Script::new(alloc), limit)?;
-    let mut found = String::new(alloc);
-    for row in rows.lines() {
-        found.push_str(&turned(alloc, &mut core, row)?)?;
-    }
-    found.push_str(&deeds(alloc, core.log(), core.actors())?)?;
-    Ok(found)
+    turns_of(alloc, &mut core, rows)
 }
 
 fn found(alloc: Global, project: Project, limit: u32, rows: &str) -> Result<String, Fail>

@@ -1,8 +1,9 @@
 //! The path of a definition, block by block.
 
-ghost use Rattle.std.specs.Prelude.{◌≡◌, ◌≤◌, ◌<◌, ◌+◌, ◌∷◌, [], ◌++◌, ◌↔◌, IsNone, IfSome, Some, length, slice_get};
+ghost use Rattle.std.specs.Prelude.{◌≡◌, ◌≤◌, ◌<◌, ◌+◌, ◌∷◌, [], ◌++◌, ◌↔◌, IsNone, IsSome, IfSome, Some, length, slice_get};
 ghost use Rattle.path_blocks.specs.Path.{path_of};
 ghost use Rattle.path_blocks.specs.Place.{IsAtEnd, ahead, behind, onward, start};
+ghost use Rattle.path_blocks.specs.declared.limits.TheConstants.{MAX_BLOCKS};
 ghost use Rattle.path_gen.specs.declared.generator.Filled.TheVariants.{Whole};
 
 use crate::{face, hole, pocket};
@@ -99,6 +100,27 @@ impl Gen {
     {
         if self.next < self.count {
             Some(block_at(&self.definition, self.count, self.next))
+        } else {
+            None
+        }
+    }
+
+    /// How many blocks the whole path has.
+    fn length(&self) -> u32
+        ensures exact { result ≡ length (path_of self.now.def) }
+        ensures few { result ≤ MAX_BLOCKS }
+    {
+        self.count
+    }
+
+    /// The block with this index, counted from 0, of the whole path, however far along it is. None where the path has no such block.
+    pub fn at(&self, index: usize) -> Option<Block>
+        ensures exact { result ≡ slice_get (path_of self.now.def) index }
+        ensures few { IsSome result → index < MAX_BLOCKS }
+    {
+        let count = self.length();
+        if index < count as usize {
+            Some(block_at(&self.definition, count, index as u32))
         } else {
             None
         }

@@ -6,6 +6,7 @@ use Rattle.std.proofs.Common.{refl, sym, ap, subst, ◌∙◌, arith, cond}
 use Rattle.std.proofs.lemmas.Bool.Decides.{nat_tests}
 use Rattle.path_blocks.specs.declared.def.Def.{Def}
 use Rattle.path_blocks.specs.Path.{path_of}
+use Rattle.path_blocks.specs.Place.{start}
 use Rattle.exec_tree.specs.Exec.{Exec, has, works}
 use Rattle.exec_tree.specs.declared.node.BareNode.{BareNode}
 use Rattle.exec_tree.specs.Walked.{place_from}
@@ -145,34 +146,34 @@ stage_more n so_far [] x = refl
 stage_more n so_far (y ∷ t) x = stage_more n (stage_step n so_far y) t x
 
 -- what is known of an entry's node with the rules after it
-pub record Follows (r : Rules) (t : List Entry) (x : Entry) (n : ℕ) (plan : Option Def) : Type 0 where
+pub record Follows (r : Rules) (t : List Entry) (x : Entry) (n : ℕ) (def : Option Def) : Type 0 where
   pub number : number_of x ≡ Some n
   pub channel : (m : ℕ) → r.channel (t ++ x ∷ []) m ≡ r.channel t m
   pub tree : r.tree (t ++ x ∷ []) ≡ r.tree t
   pub frozen : (m : ℕ) → has_some (m ∷ []) (dispatched x) ≡ false → r.path (t ++ x ∷ []) m ≡ r.path t m
-  pub sent : (m v : ℕ) → x ≡ Dispatch m v → IsSomeAnd plan (λ d. r.path (t ++ x ∷ []) m ≡ path_of d)
+  pub sent : (m v : ℕ) → x ≡ Dispatch m v → IsSomeAnd def (λ d. r.path (t ++ x ∷ []) m ≡ path_of d)
   pub starts : (m v : ℕ) → x ≡ Dispatch m v → (has (works (r.tree t)) m ≡ true) × ((is_open m t || not (is_busy r t (r.channel t m))) ≡ true)
   pub ends : (m : ℕ) → x ≡ End m → is_open m t ≡ true
 
 -- a step that stays the open one of its channel
-stays : (r : Rules) (t : List Entry) (x : Entry) (n : ℕ) (plan : Option Def) (c : ℕ) (o : OpenStep) → Follows r t x n plan → has_some (o.step ∷ []) (dispatched x) ≡ false → IsOpenStep r t c o → IsOpenStep r (t ++ x ∷ []) c o
-stays r t x n plan c o f d h = record {
+stays : (r : Rules) (t : List Entry) (x : Entry) (n : ℕ) (def : Option Def) (c : ℕ) (o : OpenStep) → Follows r t x n def → has_some (o.step ∷ []) (dispatched x) ≡ false → IsOpenStep r t c o → IsOpenStep r (t ++ x ∷ []) c o
+stays r t x n def c o f d h = record {
   channel = f.channel o.step ∙ h.channel;
   among = subst (λ (e : Exec). has (works e) o.step ≡ true) (sym f.tree) h.among;
   path = f.frozen o.step d ∙ h.path;
 }
 
-each_stays : (r : Rules) (t : List Entry) (x : Entry) (n : ℕ) (plan : Option Def) (c : ℕ) (slot : Option OpenStep) → Follows r t x n plan
+each_stays : (r : Rules) (t : List Entry) (x : Entry) (n : ℕ) (def : Option Def) (c : ℕ) (slot : Option OpenStep) → Follows r t x n def
     → ((o : OpenStep) → slot ≡ Some o → has_some (o.step ∷ []) (dispatched x) ≡ false) → IfSome slot (λ o. IsOpenStep r t c o) → IfSome slot (λ o. IsOpenStep r (t ++ x ∷ []) c o)
-each_stays r t x n plan c None f d h = h
-each_stays r t x n plan c (Some o) f d h = stays r t x n plan c o f (d o refl) h
+each_stays r t x n def c None f d h = h
+each_stays r t x n def c (Some o) f d h = stays r t x n def c o f (d o refl) h
 
 -- an entry that neither starts nor ends a step
-same_steps : (r : Rules) (t : List Entry) (x : Entry) (n : ℕ) (plan : Option Def) (old new : List (Option OpenStep)) → Follows r t x n plan → AreOpen r t old
+same_steps : (r : Rules) (t : List Entry) (x : Entry) (n : ℕ) (def : Option Def) (old new : List (Option OpenStep)) → Follows r t x n def → AreOpen r t old
     → ((m : ℕ) → is_open m (t ++ x ∷ []) ≡ is_open m t) → dispatched x ≡ None → ((c : ℕ) → slot_at new c ≡ slot_at old c) → AreOpen r (t ++ x ∷ []) new
-same_steps r t x n plan old new f kept opens none slots = record {
+same_steps r t x n def old new f kept opens none slots = record {
   opens = λ m. opens m ∙ (kept.opens m ∙ (ap (λ (s : Option OpenStep). is_step_of s m) (sym (slots (r.channel t m))) ∙ ap (λ (c : ℕ). is_step_of (slot_at new c) m) (sym (f.channel m))));
-  each = λ c. subst (λ (s : Option OpenStep). IfSome s (λ o. IsOpenStep r (t ++ x ∷ []) c o)) (sym (slots c)) (each_stays r t x n plan c (slot_at old c) f (λ o e. rw none refl) (kept.each c));
+  each = λ c. subst (λ (s : Option OpenStep). IfSome s (λ o. IsOpenStep r (t ++ x ∷ []) c o)) (sym (slots c)) (each_stays r t x n def c (slot_at old c) f (λ o e. rw none refl) (kept.each c));
 }
 
 -- one slot stays, whatever channel it is of
@@ -196,15 +197,15 @@ others_closed r t slots kept n h m apart = go (slot_at slots (r.channel t n)) (a
         one true g f = let s : o.step ≡ n = grind (arith, nat_tests) in grind (arith, nat_tests)
         one false g f = absurd (no_way f)
 
-started : (r : Rules) (t : List Entry) (n v : ℕ) (d : Def) (plan : Option Def) (old new : List (Option OpenStep)) → Follows r t (Dispatch n v) n plan → AreOpen r t old
+started : (r : Rules) (t : List Entry) (n v : ℕ) (d : Def) (def : Option Def) (old new : List (Option OpenStep)) → Follows r t (Dispatch n v) n def → AreOpen r t old
     → r.path (t ++ Dispatch n v ∷ []) n ≡ path_of d
-    → ((c : ℕ) → slot_at new c ≡ (if c == r.channel t n then Some (record { step = n; plan = d }) else slot_at old c)) → AreOpen r (t ++ Dispatch n v ∷ []) new
-started r t n v d plan old new f kept path slots = record { opens = λ m. opens m (n == m) refl ∙ ap (λ (c : ℕ). is_step_of (slot_at new c) m) (sym (f.channel m)); each = λ c. each c (c == r.channel t n) refl }
+    → ((c : ℕ) → slot_at new c ≡ (if c == r.channel t n then Some (record { step = n; blocks = start d }) else slot_at old c)) → AreOpen r (t ++ Dispatch n v ∷ []) new
+started r t n v d def old new f kept path slots = record { opens = λ m. opens m (n == m) refl ∙ ap (λ (c : ℕ). is_step_of (slot_at new c) m) (sym (f.channel m)); each = λ c. each c (c == r.channel t n) refl }
   where
     enabled : (is_open n t || not (is_busy r t (r.channel t n))) ≡ true
     enabled = (f.starts n v refl).1
 
-    elsewhere : (m : ℕ) → (m == n) ≡ false → (b : Bool) → (r.channel t m == r.channel t n) ≡ b → is_step_of (slot_at old (r.channel t m)) m ≡ is_step_of (if b then Some (record { step = n; plan = d }) else slot_at old (r.channel t m)) m
+    elsewhere : (m : ℕ) → (m == n) ≡ false → (b : Bool) → (r.channel t m == r.channel t n) ≡ b → is_step_of (slot_at old (r.channel t m)) m ≡ is_step_of (if b then Some (record { step = n; blocks = start d }) else slot_at old (r.channel t m)) m
     elsewhere m apart true e =
         let s : r.channel t m ≡ r.channel t n = grind (arith, nat_tests) in
         let back : (n == m) ≡ false = grind (arith, nat_tests) in
@@ -215,7 +216,7 @@ started r t n v d plan old new f kept path slots = record { opens = λ m. opens 
     opens m true e =
         let s : n ≡ m = grind (arith, nat_tests) in
         let here : (r.channel t m == r.channel t n) ≡ true = let i = ap (r.channel t) s in grind (arith, nat_tests) in
-        let own : OpenStep = record { step = n; plan = d } in
+        let own : OpenStep = record { step = n; blocks = start d } in
         let look : slot_at new (r.channel t m) ≡ Some own = slots (r.channel t m) ∙ ap (λ (z : Bool). if z then Some own else slot_at old (r.channel t m)) here in
         let first : is_some (stage_step m (stage m t) (Dispatch n v)) ≡ true = rw e refl in
         let last : is_step_of (slot_at new (r.channel t m)) m ≡ true = ap (λ (o : Option OpenStep). is_step_of o m) look ∙ e in
@@ -228,13 +229,13 @@ started r t n v d plan old new f kept path slots = record { opens = λ m. opens 
     each : (c : ℕ) (b : Bool) → (c == r.channel t n) ≡ b → IfSome (slot_at new c) (λ o. IsOpenStep r (t ++ Dispatch n v ∷ []) c o)
     each c true e =
         let s : r.channel t n ≡ c = grind (arith, nat_tests) in
-        let own : IsOpenStep r (t ++ Dispatch n v ∷ []) c (record { step = n; plan = d }) =
+        let own : IsOpenStep r (t ++ Dispatch n v ∷ []) c (record { step = n; blocks = start d }) =
         record { channel = f.channel n ∙ s; among = subst (λ (x : Exec). has (works x) n ≡ true) (sym f.tree) (f.starts n v refl).0; path = path } in
-        let look : slot_at new c ≡ Some (record { step = n; plan = d }) = slots c ∙ ap (λ (z : Bool). if z then Some (record { step = n; plan = d }) else slot_at old c) e in
+        let look : slot_at new c ≡ Some (record { step = n; blocks = start d }) = slots c ∙ ap (λ (z : Bool). if z then Some (record { step = n; blocks = start d }) else slot_at old c) e in
         subst (λ (o : Option OpenStep). IfSome o (λ p. IsOpenStep r (t ++ Dispatch n v ∷ []) c p)) (sym look) own
     each c false e =
-        let olds = each_stays r t (Dispatch n v) n plan c (slot_at old c) f (λ o g. others o g) (kept.each c) in
-        let look : slot_at new c ≡ slot_at old c = slots c ∙ ap (λ (z : Bool). if z then Some (record { step = n; plan = d }) else slot_at old c) e in
+        let olds = each_stays r t (Dispatch n v) n def c (slot_at old c) f (λ o g. others o g) (kept.each c) in
+        let look : slot_at new c ≡ slot_at old c = slots c ∙ ap (λ (z : Bool). if z then Some (record { step = n; blocks = start d }) else slot_at old c) e in
         subst (λ (o : Option OpenStep). IfSome o (λ p. IsOpenStep r (t ++ Dispatch n v ∷ []) c p)) (sym look) olds
       where
         others : (o : OpenStep) → slot_at old c ≡ Some o → has_some (o.step ∷ []) (Some n) ≡ false
@@ -252,9 +253,9 @@ started r t n v d plan old new f kept path slots = record { opens = λ m. opens 
                 let w : (c == r.channel t n) ≡ true = grind (arith, nat_tests) in
                 absurd (no_true (c == r.channel t n) w e)
 
-ended : (r : Rules) (t : List Entry) (n : ℕ) (plan : Option Def) (old new : List (Option OpenStep)) → Follows r t (End n) n plan → AreOpen r t old
+ended : (r : Rules) (t : List Entry) (n : ℕ) (def : Option Def) (old new : List (Option OpenStep)) → Follows r t (End n) n def → AreOpen r t old
     → ((c : ℕ) → slot_at new c ≡ (if c == r.channel t n then None else slot_at old c)) → AreOpen r (t ++ End n ∷ []) new
-ended r t n plan old new f kept slots = record { opens = λ m. opens m (n == m) refl ∙ ap (λ (c : ℕ). is_step_of (slot_at new c) m) (sym (f.channel m)); each = λ c. each c (c == r.channel t n) refl }
+ended r t n def old new f kept slots = record { opens = λ m. opens m (n == m) refl ∙ ap (λ (c : ℕ). is_step_of (slot_at new c) m) (sym (f.channel m)); each = λ c. each c (c == r.channel t n) refl }
   where
     or_true : (a b : Bool) → a ≡ true → (a || b) ≡ true
     or_true a b e = rw e refl
@@ -284,12 +285,12 @@ ended r t n plan old new f kept slots = record { opens = λ m. opens m (n == m) 
     each c false e =
         let look : slot_at new c ≡ slot_at old c = slots c ∙ ap (λ (z : Bool). if z then None else slot_at old c) e in
         subst (λ (o : Option OpenStep). IfSome o (λ p. IsOpenStep r (t ++ End n ∷ []) c p)) (sym look)
-        (each_stays r t (End n) n plan c (slot_at old c) f (λ o g. refl) (kept.each c))
+        (each_stays r t (End n) n def c (slot_at old c) f (λ o g. refl) (kept.each c))
 
 -- the open steps after an entry
-pub steps_follow : (r : Rules) (t : List Entry) (x : Entry) (n : ℕ) (plan : Option Def) (old new : List (Option OpenStep)) (channel : ℕ) → Follows r t x n plan → AreOpen r t old → channel ≡ r.channel t n
-    → ((c : ℕ) → slot_at new c ≡ (if c == channel then slot_after plan x (slot_at old c) else slot_at old c)) → AreOpen r (t ++ x ∷ []) new
-steps_follow r t (Dispatch m v) n plan old new channel f kept e slots = go plan f slots (f.sent m v refl)
+pub steps_follow : (r : Rules) (t : List Entry) (x : Entry) (n : ℕ) (def : Option Def) (old new : List (Option OpenStep)) (channel : ℕ) → Follows r t x n def → AreOpen r t old → channel ≡ r.channel t n
+    → ((c : ℕ) → slot_at new c ≡ (if c == channel then slot_after def x (slot_at old c) else slot_at old c)) → AreOpen r (t ++ x ∷ []) new
+steps_follow r t (Dispatch m v) n def old new channel f kept e slots = go def f slots (f.sent m v refl)
   where
     go : (p : Option Def) → Follows r t (Dispatch m v) n p → ((c : ℕ) → slot_at new c ≡ (if c == channel then slot_after p (Dispatch m v) (slot_at old c) else slot_at old c))
         → IsSomeAnd p (λ d. r.path (t ++ Dispatch m v ∷ []) m ≡ path_of d) → AreOpen r (t ++ Dispatch m v ∷ []) new
@@ -299,23 +300,23 @@ steps_follow r t (Dispatch m v) n plan old new channel f kept e slots = go plan 
         let s : n ≡ m = cc in
         let k : channel ≡ r.channel t m = e ∙ ap (r.channel t) s in
         started r t m v d (Some d) old new (subst (λ (a : ℕ). Follows r t (Dispatch m v) a (Some d)) s g) kept i
-        (λ c. h c ∙ ap (λ (a : ℕ). if c == a then Some (record { step = m; plan = d }) else slot_at old c) k)
-steps_follow r t (End m) n plan old new channel f kept e slots =
+        (λ c. h c ∙ ap (λ (a : ℕ). if c == a then Some (record { step = m; blocks = start d }) else slot_at old c) k)
+steps_follow r t (End m) n def old new channel f kept e slots =
     let j : Some n ≡ Some m = sym f.number in
     let s : n ≡ m = cc in
     let k : channel ≡ r.channel t m = e ∙ ap (r.channel t) s in
-    ended r t m plan old new (subst (λ (a : ℕ). Follows r t (End m) a plan) s f) kept (λ c. slots c ∙ ap (λ (a : ℕ). if c == a then None else slot_at old c) k)
-steps_follow r t (Block m j b) n plan old new channel f kept e slots =
-    same_steps r t (Block m j b) n plan old new f kept (λ i. ap is_some (stage_more i None t (Block m j b)) ∙ go (m == i) (stage i t)) refl (all_same old new channel slots)
+    ended r t m def old new (subst (λ (a : ℕ). Follows r t (End m) a def) s f) kept (λ c. slots c ∙ ap (λ (a : ℕ). if c == a then None else slot_at old c) k)
+steps_follow r t (Block m j b) n def old new channel f kept e slots =
+    same_steps r t (Block m j b) n def old new f kept (λ i. ap is_some (stage_more i None t (Block m j b)) ∙ go (m == i) (stage i t)) refl (all_same old new channel slots)
   where
     go : (z : Bool) (o : Option ℕ) → is_some (if z then option_map (λ k. k + 1) o else o) ≡ is_some o
     go true None = refl
     go true (Some k) = refl
     go false o = refl
-steps_follow r t (Pick m j) n plan old new channel f kept e slots = same_steps r t (Pick m j) n plan old new f kept (λ i. ap is_some (stage_more i None t (Pick m j))) refl (all_same old new channel slots)
-steps_follow r t (Test m b) n plan old new channel f kept e slots = same_steps r t (Test m b) n plan old new f kept (λ i. ap is_some (stage_more i None t (Test m b))) refl (all_same old new channel slots)
-steps_follow r t (Assign m z) n plan old new channel f kept e slots = same_steps r t (Assign m z) n plan old new f kept (λ i. ap is_some (stage_more i None t (Assign m z))) refl (all_same old new channel slots)
-steps_follow r t (Set m) n plan old new channel f kept e slots = same_steps r t (Set m) n plan old new f kept (λ i. ap is_some (stage_more i None t (Set m))) refl (all_same old new channel slots)
-steps_follow r t (Pass m) n plan old new channel f kept e slots = same_steps r t (Pass m) n plan old new f kept (λ i. ap is_some (stage_more i None t (Pass m))) refl (all_same old new channel slots)
-steps_follow r t (Note m) n plan old new channel f kept e slots = same_steps r t (Note m) n plan old new f kept (λ i. ap is_some (stage_more i None t (Note m))) refl (all_same old new channel slots)
-steps_follow r t (Edit i w) n plan old new channel f kept e slots = same_steps r t (Edit i w) n plan old new f kept (λ j. ap is_some (stage_more j None t (Edit i w))) refl (all_same old new channel slots)
+steps_follow r t (Pick m j) n def old new channel f kept e slots = same_steps r t (Pick m j) n def old new f kept (λ i. ap is_some (stage_more i None t (Pick m j))) refl (all_same old new channel slots)
+steps_follow r t (Test m b) n def old new channel f kept e slots = same_steps r t (Test m b) n def old new f kept (λ i. ap is_some (stage_more i None t (Test m b))) refl (all_same old new channel slots)
+steps_follow r t (Assign m z) n def old new channel f kept e slots = same_steps r t (Assign m z) n def old new f kept (λ i. ap is_some (stage_more i None t (Assign m z))) refl (all_same old new channel slots)
+steps_follow r t (Set m) n def old new channel f kept e slots = same_steps r t (Set m) n def old new f kept (λ i. ap is_some (stage_more i None t (Set m))) refl (all_same old new channel slots)
+steps_follow r t (Pass m) n def old new channel f kept e slots = same_steps r t (Pass m) n def old new f kept (λ i. ap is_some (stage_more i None t (Pass m))) refl (all_same old new channel slots)
+steps_follow r t (Note m) n def old new channel f kept e slots = same_steps r t (Note m) n def old new f kept (λ i. ap is_some (stage_more i None t (Note m))) refl (all_same old new channel slots)
+steps_follow r t (Edit i w) n def old new channel f kept e slots = same_steps r t (Edit i w) n def old new f kept (λ j. ap is_some (stage_more j None t (Edit i w))) refl (all_same old new channel slots)

@@ -34,7 +34,7 @@ use Rattle.project_law.specs.ProjectRules.{rules_of, store_tree, store_steps, an
 use Rattle.run_core.specs.declared.open_steps.OpenStep.{OpenStep}
 use Rattle.edit_rules.specs.Faults.{has_def}
 use Rattle.step_def.specs.declared.fault.DefFault.{DefFault}
-use Rattle.run_core.specs.State.{slot_at, is_step_of, path_in, value_said, answer_said, entry_by, plan_by}
+use Rattle.run_core.specs.State.{slot_at, is_step_of, path_in, value_said, answer_said, entry_by, def_by}
 use Rattle.run_core.specs.Kept.{IsOpenStep, AreOpen}
 use Rattle.run_core.specs.Kinds.{IsDoneBy}
 use Rattle.run_core.proofs.QuestionLemmas.{Told}
@@ -141,13 +141,13 @@ made_is project script t tree vars slots version n a deed e =
     entry_is project script t tree vars slots version n a deed f
     ∙ ap (made_by (rules_of project script) t n) f
 
--- ---- plans and picks
+-- ---- definitions and picks
 
--- only a step that starts makes a dispatch, and its plan is its definition's
-pub planned_is : (store : List Entity) (tree : TreeValue) (slots : List (Option OpenStep)) (vars : ℕ → ℤ) (version n : ℕ) (deed : Deed)
+-- only a step that starts makes a dispatch, and by its own definition
+pub defined_is : (store : List Entity) (tree : TreeValue) (slots : List (Option OpenStep)) (vars : ℕ → ℤ) (version n : ℕ) (deed : Deed)
     → (deed ≡ deeds.Starts → has_def store n ≡ true)
-    → (m v : ℕ) → entry_by tree slots vars version n deed ≡ Dispatch m v → IsSomeAnd (plan_by store n deed) (λ d. def_of (entity_at store) m ≡ Ok d)
-planned_is store tree slots vars version n deed h m v e = go deed h e
+    → (m v : ℕ) → entry_by tree slots vars version n deed ≡ Dispatch m v → IsSomeAnd (def_by store n deed) (λ d. def_of (entity_at store) m ≡ Ok d)
+defined_is store tree slots vars version n deed h m v e = go deed h e
   where
     cut_no : (k : ℕ) (o : Option PathBlock) → cut n k o ≡ Dispatch m v → ⊥
     cut_no k None f = cc
@@ -158,7 +158,7 @@ planned_is store tree slots vars version n deed h m v e = go deed h e
     own (Err fault) f = absurd (no_way f)
 
     go : (d : Deed) → (d ≡ deeds.Starts → has_def store n ≡ true) → entry_by tree slots vars version n d ≡ Dispatch m v
-        → IsSomeAnd (plan_by store n d) (λ def. def_of (entity_at store) m ≡ Ok def)
+        → IsSomeAnd (def_by store n d) (λ def. def_of (entity_at store) m ≡ Ok def)
     go deeds.Starts g f = let s : n ≡ m = cc in subst (λ (i : ℕ). IsSomeAnd (result_ok (def_of (entity_at store) n)) (λ def. def_of (entity_at store) i ≡ Ok def)) s (own (def_of (entity_at store) n) (g refl))
     go (deeds.Cuts k) g f = absurd (cut_no k _ f)
     go deeds.Assigns g f = absurd (cc)

@@ -42,16 +42,21 @@ least_at (suc looks) from p l m = go (from == p) refl (λ i j. least_at looks (f
     go true e f = let s : from ≡ p = grind (arith, nat_tests) in rw (has_above p from (omega (arith, s))) s
     go false e f = let n : from < p = grind (arith, nat_tests) in rw (has_below p from n) (f (omega (arith, n)) (omega (arith, m)))
 
--- where one index below the count is left, it is the first that isn't picked
-pub least_upto : (count p k : ℕ) → k < count → has (upto p) k ≡ false → least_left count (upto p) ≡ p
-least_upto count p k l h = least_at count 0 p (omega arith) (omega (arith, l, below))
+-- what isn't picked comes after the first that are
+not_below : (p k : ℕ) → has (upto p) k ≡ false → p ≤ k
+not_below p k h = go (nat_lt k p) refl
   where
     no_way : true ≡ false → ⊥
     no_way e = cc
 
-    below : p ≤ k
-    below = go (nat_lt k p) refl
-      where
-        go : (b : Bool) → nat_lt k p ≡ b → p ≤ k
-        go true e = let m : k < p = grind (arith, nat_tests) in absurd (no_way (sym (has_below p k m) ∙ h))
-        go false e = grind (arith, nat_tests)
+    go : (b : Bool) → nat_lt k p ≡ b → p ≤ k
+    go true e = let m : k < p = grind (arith, nat_tests) in absurd (no_way (sym (has_below p k m) ∙ h))
+    go false e = grind (arith, nat_tests)
+
+-- where one index below the count is left, fewer are picked
+pub picked_few : (count p k : ℕ) → k < count → has (upto p) k ≡ false → p < count
+picked_few count p k l h = omega (arith, l, not_below p k h)
+
+-- it is then the first that isn't picked
+pub least_upto : (count p k : ℕ) → k < count → has (upto p) k ≡ false → least_left count (upto p) ≡ p
+least_upto count p k l h = least_at count 0 p (omega arith) (omega (arith, l, not_below p k h))

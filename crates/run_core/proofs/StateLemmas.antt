@@ -39,7 +39,7 @@ use Rattle.project_law.specs.Legal.{Legal}
 use Rattle.run_core.specs.declared.open_steps.OpenStep.{OpenStep}
 use Rattle.run_core.specs.State.{flag_at, flag_after, mark_in, is_step_of, slot_at, slot_after, variable_in, variable_by, set_by, var_after}
 use Rattle.run_core.specs.Kinds.{IsDoneBy}
-use Rattle.run_core.specs.Kept.{IsState, IsPlanned, IsOpenStep, AreOpen}
+use Rattle.run_core.specs.Kept.{IsState, IsDefined, IsOpenStep, AreOpen}
 use Rattle.run_core.proofs.FollowLemmas.{Follows, plain_more, marks_follow, steps_follow}
 
 -- ---- what an entry says of its node
@@ -149,16 +149,16 @@ var_some tree (Pass m) o v h = h
 var_some tree (Note m) o v h = h
 var_some tree (Edit i w) o v h = h
 
--- ---- the path of a dispatch is that of its plan
+-- ---- the path of a dispatch is that of its definition
 
-pub sent_path : (store : List Entity) (plan : Option Def) (m : ℕ) (path : List PathBlock) → path ≡ blocks_in (entity_at store) m → IsSomeAnd plan (λ d. def_of (entity_at store) m ≡ Ok d) → IsSomeAnd plan (λ d. path ≡ path_of d)
+pub sent_path : (store : List Entity) (def : Option Def) (m : ℕ) (path : List PathBlock) → path ≡ blocks_in (entity_at store) m → IsSomeAnd def (λ d. def_of (entity_at store) m ≡ Ok d) → IsSomeAnd def (λ d. path ≡ path_of d)
 sent_path store None m path e h = h
 sent_path store (Some d) m path e h = e ∙ rw h refl
 
 -- ---- all of it
 
 -- what is known of an entry that fits
-pub record Entered (project : List Entity) (script : List ScriptEdit) (tree : TreeValue) (t : List Entry) (x : Entry) (n : ℕ) (plan : Option Def) : Type 0 where
+pub record Entered (project : List Entity) (script : List ScriptEdit) (tree : TreeValue) (t : List Entry) (x : Entry) (n : ℕ) (def : Option Def) : Type 0 where
   pub number : number_of x ≡ Some n
   pub legal : Legal project script (t ++ x ∷ [])
   pub said : said_in tree n ≡ Some (said_for (entity_at project) (kind_at (entity_at project n)) (entity_at project n))
@@ -166,15 +166,15 @@ pub record Entered (project : List Entity) (script : List ScriptEdit) (tree : Tr
   pub done : IsDoneBy (offer ((rules_of project script).tree t) (plain t) n) (kind_at (entity_at project n))
   pub numbered : (m place : ℕ) → place_from 0 tree.nodes m ≡ Some place → (node : BareNode) × (slice_get tree.nodes place ≡ Some node) × (node.number ≡ Some m)
   pub vars : (v : ℕ) → vars_after script project (t ++ x ∷ []) v ≡ vars_with project (vars_after script project t) x v
-  pub follows : Follows (rules_of project script) t x n plan
+  pub follows : Follows (rules_of project script) t x n def
 
 pub state_follows : (project : List Entity) (script : List ScriptEdit) (tree : TreeValue) (frames frames' : Frames) (t : List Entry) (flags flags' : List Bool) (vars vars' : List (ℕ × ℤ)) (slots slots' : List (Option OpenStep))
-    (x : Entry) (n : ℕ) (plan : Option Def) (channel : ℕ) → IsState project script tree frames t flags vars slots → Entered project script tree t x n plan
+    (x : Entry) (n : ℕ) (def : Option Def) (channel : ℕ) → IsState project script tree frames t flags vars slots → Entered project script tree t x n def
     → IsAt tree.nodes frames' (plain t ++ x ∷ []) → length flags' ≡ length flags → ((q : ℕ) → flag_at flags' q ≡ flag_after tree.nodes (marked x) (flag_at flags q) q)
     → ((m : ℕ) → value_of_variable vars' m ≡ var_after tree x (value_of_variable vars m) m)
-    → channel ≡ (rules_of project script).channel t n → ((c : ℕ) → slot_at slots' c ≡ (if c == channel then slot_after plan x (slot_at slots c) else slot_at slots c))
+    → channel ≡ (rules_of project script).channel t n → ((c : ℕ) → slot_at slots' c ≡ (if c == channel then slot_after def x (slot_at slots c) else slot_at slots c))
     → IsState project script tree frames' (t ++ x ∷ []) flags' vars' slots'
-state_follows project script tree frames frames' t flags flags' vars vars' slots slots' x n plan channel k e at fit moved assigned is opened = record {
+state_follows project script tree frames frames' t flags flags' vars vars' slots slots' x n def channel k e at fit moved assigned is opened = record {
   tree_is = k.tree_is;
   at = subst (IsAt tree.nodes frames') (sym (plain_more t x n e.number)) at;
   legal = e.legal;
@@ -182,24 +182,24 @@ state_follows project script tree frames frames' t flags flags' vars vars' slots
   marks_are = marks_follow tree.nodes flags flags' t x e.numbered (mark_placed tree.nodes x n e.number (placed tree.nodes tree.said n _ e.said)) k.marks_are moved;
   vars_are = λ v. vars_follow project script tree t x n vars vars' (offer ((rules_of project script).tree t) (plain t) n) e.number e.said e.offered e.done k.vars_are assigned v ∙ sym (e.vars v);
   vars_there = λ m v f. subst IsSome (sym (assigned v)) (var_some tree x (value_of_variable vars v) v (k.vars_there m v f));
-  steps_are = steps_follow (rules_of project script) t x n plan slots slots' channel e.follows k.steps_are is opened;
+  steps_are = steps_follow (rules_of project script) t x n def slots slots' channel e.follows k.steps_are is opened;
 }
 
 -- what is known with the rules after an entry that fits
-pub follows_is : (project : List Entity) (script : List ScriptEdit) (t : List Entry) (x : Entry) (n : ℕ) (plan : Option Def) → number_of x ≡ Some n → FitsNode (rules_of project script) t x
+pub follows_is : (project : List Entity) (script : List ScriptEdit) (t : List Entry) (x : Entry) (n : ℕ) (def : Option Def) → number_of x ≡ Some n → FitsNode (rules_of project script) t x
     → IsOffered (offer ((rules_of project script).tree t) (plain t) n) n x → IsDoneBy (offer ((rules_of project script).tree t) (plain t) n) (kind_at (entity_at project n))
     → (kind_at (entity_at project n) ≡ kinds.Work → has (works ((rules_of project script).tree t)) n ≡ true)
     → (has (works ((rules_of project script).tree t)) n ≡ true → (rules_of project script).role t n ≡ Cutting)
     → ((j : ℕ) → offer ((rules_of project script).tree t) (plain t) n ≡ Cuts j → stage n t ≡ Some j)
     → ((m : ℕ) → has_some (m ∷ []) (dispatched x) ≡ false → (rules_of project script).path (t ++ x ∷ []) m ≡ (rules_of project script).path t m)
     → ((m v : ℕ) → (rules_of project script).path (t ++ Dispatch m v ∷ []) m ≡ blocks_in (entity_at (store_after script project t)) m)
-    → IsPlanned (store_after script project t) x plan → Follows (rules_of project script) t x n plan
-follows_is project script t x n plan e fits offered done works_if role_if counted kept path planned = record {
+    → IsDefined (store_after script project t) x def → Follows (rules_of project script) t x n def
+follows_is project script t x n def e fits offered done works_if role_if counted kept path defined = record {
   number = e;
   channel = λ m. refl;
   tree = refl;
   frozen = kept;
-  sent = λ m v f. sent_path (store_after script project t) plan m ((rules_of project script).path (t ++ x ∷ []) m) (subst (λ (y : Entry). (rules_of project script).path (t ++ y ∷ []) m ≡ blocks_in (entity_at (store_after script project t)) m) (sym f) (path m v)) (planned m v f);
+  sent = λ m v f. sent_path (store_after script project t) def m ((rules_of project script).path (t ++ x ∷ []) m) (subst (λ (y : Entry). (rules_of project script).path (t ++ y ∷ []) m ≡ blocks_in (entity_at (store_after script project t)) m) (sym f) (path m v)) (defined m v f);
   starts = λ m v f. starts m v f;
   ends = λ m f. ends m f;
 }

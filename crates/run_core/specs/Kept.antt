@@ -30,11 +30,11 @@ pub record State : Type 0 where
   pub list : List Entry
   pub room : ℕ
 
--- the open step of channel c: it is a step of the tree and of that channel, and its plan is the path that it was dispatched with
+-- the open step of channel c: it is a step of the tree and of that channel, and its path is the one that it was dispatched with
 pub record IsOpenStep (r : Rules) (t : List Entry) (c : ℕ) (o : OpenStep) : Type 0 where
   pub channel : r.channel t o.step ≡ c
   pub among : has (works (r.tree t)) o.step ≡ true
-  pub path : r.path t o.step ≡ path_of o.plan
+  pub path : r.path t o.step ≡ path_of o.blocks.def
 
 -- the slots have the open steps, each at its channel
 pub record AreOpen (r : Rules) (t : List Entry) (slots : List (Option OpenStep)) : Type 0 where
@@ -52,6 +52,6 @@ pub record IsState (project : List Entity) (script : List Edit) (tree : TreeValu
   pub vars_there : (n v : ℕ) → variable_in tree n ≡ Some v → IsSome (value_of_variable vars v)
   pub steps_are : AreOpen (rules_of project script) t slots
 
--- the plan of an entry that dispatches a step is that of the step's definition in this store
-abbrev pub IsPlanned : List Entity → Entry → Option Def → Type 0
-IsPlanned store x plan = (n v : ℕ) → x ≡ Dispatch n v → IsSomeAnd plan (λ d. def_of (entity_at store) n ≡ Ok d)
+-- the definition with which an entry dispatches a step is the step's own in this store
+abbrev pub IsDefined : List Entity → Entry → Option Def → Type 0
+IsDefined store x def = (n v : ℕ) → x ≡ Dispatch n v → IsSomeAnd def (λ d. def_of (entity_at store) n ≡ Ok d)

@@ -21,6 +21,7 @@ use Rattle.run_frames.specs.declared.deed.Deed.{Deed}
 use Rattle.run_frames.specs.declared.deed.Deed.TheVariants as deeds
 use Rattle.path_blocks.specs.declared.block.Block.{Block as PathBlock}
 use Rattle.path_blocks.specs.Path.{path_of}
+use Rattle.path_blocks.specs.Place.{start}
 use Rattle.run_core.specs.declared.open_steps.OpenStep.{OpenStep}
 
 -- the flag at a place, no where there is none
@@ -67,7 +68,7 @@ variable_in tree n = variable_by (said_in tree n)
 
 -- the open step of the entry's channel after an entry: the step that is dispatched with this definition, and none after an end
 abbrev pub slot_after : Option Def → Entry → Option OpenStep → Option OpenStep
-slot_after def (Dispatch n v) slot = option_map (λ d. let o : OpenStep = record { step = n; plan = d } in o) def
+slot_after def (Dispatch n v) slot = option_map (λ d. let o : OpenStep = record { step = n; blocks = start d } in o) def
 slot_after def (End n) slot = None
 slot_after def _ slot = slot
 
@@ -100,9 +101,9 @@ is_place_of nodes place n = option_map_or (λ p. p == place) (place_from 0 nodes
 abbrev pub flag_after : List BareNode → Option ℕ → Bool → ℕ → Bool
 flag_after nodes set flag place = option_map_or (is_place_of nodes place) set false || flag
 
--- the path of a slot's plan
+-- the path of a slot's step
 abbrev pub path_in : Option OpenStep → List PathBlock
-path_in slot = option_map_or (λ o. path_of o.plan) slot []
+path_in slot = option_map_or (λ o. path_of o.blocks.def) slot []
 
 -- the entry of node n, by what it does next and what is kept, a dispatch at this version
 abbrev pub entry_by : TreeValue → List (Option OpenStep) → (ℕ → ℤ) → ℕ → ℕ → Deed → Entry
@@ -115,10 +116,10 @@ entry_by tree slots vars version n deeds.Notes = Note n
 entry_by tree slots vars version n (deeds.Picks count picked) = Pick n picked
 entry_by tree slots vars version n deeds.Tests = Test n (answer_said vars (said_in tree n))
 
--- the definition of the plan that is made for what node n does next: of a step that starts its own in this store
-abbrev pub plan_by : List Entity → ℕ → Deed → Option Def
-plan_by store n deeds.Starts = result_ok (def_of (entity_at store) n)
-plan_by store n _ = None
+-- the definition for what node n does next: of a step that starts its own in this store
+abbrev pub def_by : List Entity → ℕ → Deed → Option Def
+def_by store n deeds.Starts = result_ok (def_of (entity_at store) n)
+def_by store n _ = None
 
 -- the channel of the entry's node
 abbrev pub entry_channel : TreeValue → Entry → ℕ

@@ -9,7 +9,7 @@ ghost use Rattle.run_law.specs.Replay.{made, ready, turn};
 ghost use Rattle.project_law.specs.Script.{store_after};
 ghost use Rattle.project_law.specs.ProjectRules.{rules_of, store_channels, store_steps, version_after};
 ghost use Rattle.project_law.specs.Legal.{Legal};
-ghost use Rattle.run_core.specs.Kept.{IsPlanned};
+ghost use Rattle.run_core.specs.Kept.{IsDefined};
 ghost use Rattle.run_frames.specs.Standing.{IsNextOf};
 ghost use Rattle.run_core.specs.Standings.{standing_of};
 ghost use Rattle.run_core.specs.Core.{starts_next};
@@ -22,7 +22,7 @@ use crate::state::{Made, RunState};
 use edit_rules::Project;
 use entity_types::Script;
 use nc_base::{NoMemory, Number, Steps, Verdict};
-use path_blocks::Plan;
+use path_blocks::Def;
 use run_law::laws::{legal_runs, what_is_made_fits};
 use run_log::Entry;
 use std::alloc::Global;
@@ -119,46 +119,45 @@ impl FreeCore {
     }
 
     /// What a node where the run can go on makes next.
-    fn made(&self, alloc: Global, n: Number) -> Result<Made, NoMemory>
+    fn made(&self, n: Number) -> Made
         requires { has (next_of (rules_of self.now.project self.now.script) self.now.log) n ≡ true }
-        ensures entry { IfOk result (λ it. it.entry ≡ made (rules_of self.now.project self.now.script) self.now.log n) }
-        ensures planned { IfOk result (λ it. IsPlanned (store_after self.now.script self.now.project self.now.log) it.entry it.plan) }
-        ensures in_order { IfOk result (λ it. IsNextOf ((rules_of self.now.project self.now.script).tree self.now.log) (plain self.now.log) it.entry) }
+        ensures entry { result.entry ≡ made (rules_of self.now.project self.now.script) self.now.log n }
+        ensures defined { IsDefined (store_after self.now.script self.now.project self.now.log) result.entry result.def }
+        ensures in_order { IsNextOf ((rules_of self.now.project self.now.script).tree self.now.log) (plain self.now.log) result.entry }
     {
-        self.state.made(alloc, n)
+        self.state.made(n)
     }
 
     /// Puts an entry of a node that fits at the log's end, and its actor.
-    fn append(&mut self, who: u8, entry: Entry, plan: Option<Plan>)
+    fn append(&mut self, who: u8, entry: Entry, def: Option<Def>)
         requires room { length self.old.log < self.old.limit }
         requires who { who < 16 }
         requires node { is_plain entry ≡ true }
         requires fits { Fits (rules_of self.old.project self.old.script) self.old.log entry }
-        requires planned { IsPlanned (store_after self.old.script self.old.project self.old.log) entry plan }
+        requires defined { IsDefined (store_after self.old.script self.old.project self.old.log) entry def }
         requires in_order { IsNextOf ((rules_of self.old.project self.old.script).tree self.old.log) (plain self.old.log) entry }
         ensures { self.new ≡ record self.old { log = self.old.log ++ entry ∷ []; actors = self.old.actors ++ who ∷ [] } }
     {
-        self.state.follow(entry, plan);
+        self.state.follow(entry, def);
         self.actors.push_reserved(who);
     }
 
     /// Appends the entry of the first enabled node of a channel.
-    pub fn act(&mut self, alloc: Global, who: u8, channel: u8) -> Result<Entry, NoMemory>
+    pub fn act(&mut self, who: u8, channel: u8) -> Entry
         requires stands { standing_of (rules_of self.old.project self.old.script) self.old.limit self.old.log ≡ Ready }
         requires one { IsSome (ready (rules_of self.old.project self.old.script) self.old.log channel) }
         requires who { who < 16 }
-        ensures turn { IfOk result (λ x. turn (rules_of self.old.project self.old.script) self.old.limit self.old.log channel ≡ Some x) }
-        ensures ok { IfOk result (λ x. self.new ≡ record self.old { log = self.old.log ++ x ∷ []; actors = self.old.actors ++ who ∷ [] }) }
-        ensures err { OnErr result (self.new ≡ self.old) }
+        ensures turn { turn (rules_of self.old.project self.old.script) self.old.limit self.old.log channel ≡ Some result }
+        ensures log { self.new ≡ record self.old { log = self.old.log ++ result ∷ []; actors = self.old.actors ++ who ∷ [] } }
     {
         let n = self.ready(channel).unwrap().node;
         self.legal();
         legal_runs();
         what_is_made_fits();
-        let it = self.made(alloc, n)?;
+        let it = self.made(n);
         let entry = it.entry;
-        self.append(who, entry, it.plan);
-        Ok(entry)
+        self.append(who, entry, it.def);
+        entry
     }
 
     /// Appends the verdict on the next edit, which is due, and puts the edit where it is accepted.

@@ -106,19 +106,16 @@ impl<N: RunName> RunCore<N> {
         self.core.ready(channel)
     }
 
-    /// Appends the entry of the first enabled node of a channel, which a turn of that channel makes, for the actor `who`, below 16.
-    ///
-    /// # Errors
-    /// `NoMemory` where there is none for the plan of a step that is dispatched; the core is then as it was.
-    pub fn act(&mut self, alloc: Global, who: u8, channel: u8) -> Result<Entry, NoMemory>
+    /// Appends the entry of the first enabled node of a channel, which a turn of that channel makes, for the actor `who`, below 16. It takes no
+    /// memory.
+    pub fn act(&mut self, who: u8, channel: u8) -> Entry
         requires stands { standing_of (rules_of N.project N.script) N.limit self.old.0 ≡ Ready }
         requires one { IsSome (ready (rules_of N.project N.script) self.old.0 channel) }
         requires who { who < 16 }
-        ensures turn { IfOk result (λ x. turn (rules_of N.project N.script) N.limit self.old.0 channel ≡ Some x) }
-        ensures ok { IfOk result (λ x. self.new ≡ (self.old.0 ++ x ∷ [], self.old.1 ++ who ∷ [])) }
-        ensures err { OnErr result (self.new ≡ self.old) }
+        ensures turn { turn (rules_of N.project N.script) N.limit self.old.0 channel ≡ Some result }
+        ensures log { self.new ≡ (self.old.0 ++ result ∷ [], self.old.1 ++ who ∷ []) }
     {
-        self.core.act(alloc, who, channel)
+        self.core.act(who, channel)
     }
 
     /// Appends the verdict on the next edit, which is due, for the actor `who`, below 16, and puts the edit where it is accepted. It counts a step

@@ -6,16 +6,17 @@ ghost use Rattle.run_core.specs.State.{slot_at, slot_after};
 
 use exec_tree::MAX_CHANNELS;
 use nc_base::{NoMemory, Number};
-use path_blocks::Plan;
+use path_blocks::Def;
+use path_gen::Gen;
 use run_log::Entry;
 use std::alloc::Global;
 use std::marker::Model;
 
-/// A step that was dispatched and hasn't ended, and the plan that it was dispatched with.
+/// A step that was dispatched and hasn't ended, and the path that it was dispatched with.
 #[derive(Drop)]
 pub struct OpenStep {
     pub step: Number,
-    pub plan: Plan,
+    pub blocks: Gen,
 }
 
 /// The open step of each channel, where it has one.
@@ -37,12 +38,15 @@ impl Model for OpenSteps {
 }
 
 /// The open step after an entry of its channel.
-fn slot_after(plan: Option<Plan>, entry: &Entry, slot: Option<OpenStep>) -> Option<OpenStep>
-    ensures { result ≡ slot_after plan entry.now slot }
+fn slot_after(def: Option<Def>, entry: &Entry, slot: Option<OpenStep>) -> Option<OpenStep>
+    ensures { result ≡ slot_after def entry.now slot }
 {
     match *entry {
-        Entry::Dispatch { n, .. } => match plan {
-            Some(plan) => Some(OpenStep { step: n, plan }),
+        Entry::Dispatch { n, .. } => match def {
+            Some(def) => Some(OpenStep {
+                step: n,
+                blocks: Gen::new(&def),
+            }),
             None => None,
         },
         Entry::End { .. } => None,
@@ -72,12 +76,12 @@ impl OpenSteps {
         }
     }
 
-    /// Goes on with an entry of a channel, in which a step is dispatched with this plan.
-    pub fn follow(&mut self, channel: u8, entry: &Entry, plan: Option<Plan>)
+    /// Goes on with an entry of a channel, in which a step is dispatched with this definition.
+    pub fn follow(&mut self, channel: u8, entry: &Entry, def: Option<Def>)
         requires { channel < MAX_CHANNELS }
-        ensures { (c : ℕ) → slot_at self.new c ≡ (if c == channel then slot_after plan entry.now (slot_at self.old c) else slot_at self.old c) }
+        ensures { (c : ℕ) → slot_at self.new c ≡ (if c == channel then slot_after def entry.now (slot_at self.old c) else slot_at self.old c) }
     {
         let slot = self.slots[channel as usize].take();
-        self.slots[channel as usize] = slot_after(plan, entry, slot);
+        self.slots[channel as usize] = slot_after(def, entry, slot);
     }
 }

@@ -55,7 +55,7 @@ fn turn<N: RunName>(core: &mut RunCore<N>, alloc: Global, channel: u8) -> Result
     match core.standing() {
         Standing::Ready => match core.ready(channel) {
             Some(_) => {
-                core.act(alloc, CALLER, channel)?;
+                core.act(CALLER, channel);
                 Ok(true)
             }
             None => Ok(false),
@@ -166,6 +166,30 @@ fn log_of(alloc: Global, entries: &[Entry]) -> Result<Log, NoMemory>
     Ok(log)
 }
 
+/// What a core has made, with how it ended, once it has run under a schedule to its end.
+fn run<N: RunName>(
+    core: &mut RunCore<N>,
+    alloc: Global,
+    limit: u32,
+    schedule: &[u8],
+) -> Result<(Log, Ending), NoMemory>
+    requires most { limit ≤ MAX_ENTRIES }
+    requires limit { limit ≡ N.limit }
+    requires anew { core.old.0 ≡ [] }
+    ensures replayed { IfOk result (λ ran. ran.0 ≡ replay (rules_of N.project N.script) (channel_numbers N.project) schedule.now N.limit) }
+    ensures run { IfOk result (λ ran. IsRun N.project N.script N.limit ran.0 ran.1) }
+{
+    project_rules_are_sound();
+    replay_ends();
+    let mut idle = IdleChannels::new();
+    let channels = channel_list(alloc, core.channels())?;
+    turns(core, alloc, &mut idle, schedule)?;
+    rounds(core, alloc, &mut idle, channels.as_slice(), limit)?;
+    core.legal();
+    let ending = ending(core);
+    Ok((log_of(alloc, core.log())?, ending))
+}
+
 /// The run that N names, under a schedule.
 fn replay_named<N: RunName>(
     alloc: Global,
@@ -181,16 +205,8 @@ fn replay_named<N: RunName>(
     ensures replayed { IfOk result (λ ran. ran.0 ≡ replay (rules_of N.project N.script) (channel_numbers N.project) schedule.now N.limit) }
     ensures run { IfOk result (λ ran. IsRun N.project N.script N.limit ran.0 ran.1) }
 {
-    project_rules_are_sound();
-    replay_ends();
     let mut core = RunCore::<N>::open(alloc, project, script, limit)?;
-    let mut idle = IdleChannels::new();
-    let channels = channel_list(alloc, core.channels())?;
-    turns(&mut core, alloc, &mut idle, schedule)?;
-    rounds(&mut core, alloc, &mut idle, channels.as_slice(), limit)?;
-    core.legal();
-    let ending = ending(&core);
-    Ok((log_of(alloc, core.log())?, ending))
+    run(&mut core, alloc, limit, schedule)
 }
 
 /// The run of a project and a script of edits under a schedule of channels: turns as scheduled, then rounds of all channels to its end, or until
@@ -198,7 +214,7 @@ fn replay_named<N: RunName>(
 /// project doesn't have makes nothing.
 ///
 /// # Errors
-/// `NoMemory` where there is none for the core, or for the plan of a step that is dispatched.
+/// `NoMemory` where there is none for the core, to judge or put an edit, or for the log.
 pub fn replay(
     alloc: Global,
     project: Project,

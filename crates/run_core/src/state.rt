@@ -1,6 +1,6 @@
 //! The state of a run: where it stands, what is set and open, and what the variables are.
 
-ghost use Rattle.std.specs.Prelude.{◌≡◌, ◌<◌, ◌≤◌, ◌++◌, ◌∷◌, [], true, max, ◌+◌, length, IfOk, OnOk, OnErr, slice_get, is_none};
+ghost use Rattle.std.specs.Prelude.{◌≡◌, ◌<◌, ◌≤◌, ◌^◌, ◌++◌, ◌∷◌, [], ℕ, true, max, ◌+◌, length, IfOk, OnOk, OnErr, slice_get, is_none};
 ghost use Rattle.std.specs.List.{list_all};
 ghost use Rattle.nc_expr.specs.Vars.{value_at};
 ghost use Rattle.exec_tree.specs.Exec.{has};
@@ -13,12 +13,12 @@ ghost use Rattle.run_law.specs.Endings.{waits};
 ghost use Rattle.run_law.specs.Replay.{cut, made, ready};
 ghost use Rattle.project_store.specs.Entities.{entity_at};
 ghost use Rattle.step_def.specs.Condition.{is_workingstep};
-ghost use Rattle.run_frames.specs.declared.deed.Deed.TheVariants.{Starts};
+ghost use Rattle.run_frames.specs.declared.deed.Deed.TheVariants.{Starts, Picks};
 ghost use Rattle.project_law.specs.Script.{store_after};
 ghost use Rattle.project_law.specs.ProjectRules.{rules_of, store_channels, store_steps, version_after};
 ghost use Rattle.project_law.specs.Legal.{Legal};
-ghost use Rattle.run_core.specs.State.{slot_at, path_in, entry_by, plan_by, entry_channel};
-ghost use Rattle.run_core.specs.Kept.{IsPlanned};
+ghost use Rattle.run_core.specs.State.{slot_at, path_in, entry_by, def_by, entry_channel};
+ghost use Rattle.run_core.specs.Kept.{IsDefined};
 ghost use Rattle.run_core.specs.Edits.{HasVersion, version_now, reached_by};
 ghost use Rattle.run_frames.specs.Standing.{IsNextOf};
 ghost use Rattle.run_log.specs.declared.entry.Entry.TheVariants.{Pick, Edit};
@@ -29,7 +29,6 @@ use crate::definition::definition_in;
 use crate::edits::Edits;
 use crate::marks::{self, Marks};
 use crate::open_steps::OpenSteps;
-use crate::planning::plan_of;
 use crate::questions::{Any, ReadyIn, Waitless};
 use crate::variables::{self, answer_of, opening_vars, value_of};
 use edit_rules::Project;
@@ -39,7 +38,7 @@ use exec_tree::Tree;
 use exec_tree::laws::{places_are_found, trees_are_sound, trees_tell};
 use nc_base::{NoMemory, Number, Steps, Verdict};
 use nc_expr::Vars;
-use path_blocks::Plan;
+use path_blocks::Def;
 use project_law::laws::{project_rules_are_sound, project_rules_move, stuck_project_waits};
 use project_store::Store;
 use run_frames::{Deed, Frames};
@@ -52,11 +51,11 @@ use trace_law::laws::{
     blocks_are_counted, next_stands_in_preorder, what_can_go_on_is_open, what_is_offered_follows,
 };
 
-/// The entry that a node makes next, and of a dispatch the plan.
+/// The entry that a node makes next, and of a dispatch the definition of the step.
 #[derive(Drop)]
 pub struct Made {
     pub entry: Entry,
-    pub plan: Option<Plan>,
+    pub def: Option<Def>,
 }
 
 /// The state of a run. Contracts see the project's entities, its script, the entries so far, and how many of them there is room for.
@@ -91,12 +90,8 @@ fn next_cut(steps: &OpenSteps, channel: u8, n: Number, k: usize) -> Entry
     let Some(open_step) = steps.at(channel) else {
         return Entry::End { n };
     };
-    match open_step.plan.blocks().get(k) {
-        Some(b) => Entry::Block {
-            n,
-            k: k as u32,
-            b: *b,
-        },
+    match open_step.blocks.at(k) {
+        Some(b) => Entry::Block { n, k: k as u32, b },
         None => Entry::End { n },
     }
 }
@@ -109,10 +104,11 @@ fn entry_by(
     version: u32,
     n: Number,
     deed: Deed,
-) -> Result<Entry, NoMemory>
-    ensures { IfOk result (λ entry. entry ≡ entry_by tree.now steps.now (value_at vars.now) version n deed) }
+) -> Entry
+    requires { (count picked : ℕ) → deed ≡ Picks count picked → picked < count }
+    ensures { result ≡ entry_by tree.now steps.now (value_at vars.now) version n deed }
 {
-    Ok(match deed {
+    match deed {
         Deed::Starts => Entry::Dispatch { n, v: version },
         Deed::Cuts(k) => next_cut(steps, tree.channel(n), n, k),
         Deed::Assigns => Entry::Assign {
@@ -122,35 +118,30 @@ fn entry_by(
         Deed::Sets => Entry::Set { n },
         Deed::Passes => Entry::Pass { n },
         Deed::Notes => Entry::Note { n },
-        Deed::Picks { count: _, picked } => return pick(n, picked),
+        Deed::Picks { count: _, picked } => pick(n, picked),
         Deed::Tests => Entry::Test {
             n,
             yes: answer_of(tree, vars, n),
         },
-    })
-}
-
-/// The pick of the element at an index. A tree has no more than fits into 32 bits.
-fn pick(n: Number, index: usize) -> Result<Entry, NoMemory>
-    ensures { IfOk result (λ entry. entry ≡ Pick n index) }
-{
-    if index > u32::MAX as usize {
-        return Err(NoMemory);
     }
-    Ok(Entry::Pick { n, k: index as u32 })
 }
 
-/// The plan of a step that starts, by its definition in the store as it is now.
-fn plan_by(alloc: Global, store: &Store, n: Number, deed: Deed) -> Result<Option<Plan>, NoMemory>
+/// The pick of the element at an index. No node has more elements than fit into 32 bits.
+fn pick(n: Number, index: usize) -> Entry
+    requires { index < 2 ^ 32 }
+    ensures { result ≡ Pick n index }
+{
+    Entry::Pick { n, k: index as u32 }
+}
+
+/// The definition of a step that starts, in the store as it is now.
+fn def_by(store: &Store, n: Number, deed: Deed) -> Option<Def>
     requires { deed ≡ Starts → is_workingstep (entity_at store.now) n ≡ true }
-    ensures { IfOk result (λ plan. plan ≡ plan_by store.now n deed) }
+    ensures { result ≡ def_by store.now n deed }
 {
     match deed {
-        Deed::Starts => match definition_in(store, n) {
-            Some(def) => Ok(Some(plan_of(alloc, &def)?)),
-            None => Ok(None),
-        },
-        _ => Ok(None),
+        Deed::Starts => definition_in(store, n),
+        _ => None,
     }
 }
 
@@ -332,12 +323,12 @@ impl RunState {
         self.log.as_slice()
     }
 
-    /// What a node where the run can go on makes next. It may want memory for the plan of a step that starts.
-    pub fn made(&self, alloc: Global, n: Number) -> Result<Made, NoMemory>
+    /// What a node where the run can go on makes next.
+    pub fn made(&self, n: Number) -> Made
         requires { has (next_of (rules_of self.now.project self.now.script) self.now.list) n ≡ true }
-        ensures entry { IfOk result (λ it. it.entry ≡ made (rules_of self.now.project self.now.script) self.now.list n) }
-        ensures planned { IfOk result (λ it. IsPlanned (store_after self.now.script self.now.project self.now.list) it.entry it.plan) }
-        ensures in_order { IfOk result (λ it. IsNextOf ((rules_of self.now.project self.now.script).tree self.now.list) (plain self.now.list) it.entry) }
+        ensures entry { result.entry ≡ made (rules_of self.now.project self.now.script) self.now.list n }
+        ensures defined { IsDefined (store_after self.now.script self.now.project self.now.list) result.entry result.def }
+        ensures in_order { IsNextOf ((rules_of self.now.project self.now.script).tree self.now.list) (plain self.now.list) result.entry }
     {
         trees_tell();
         trees_are_sound();
@@ -348,18 +339,18 @@ impl RunState {
         legal_runs();
         logs_move();
         let deed = self.frames.deed(&self.tree, n);
-        let plan = plan_by(alloc, self.edits.store(&self.store), n, deed)?;
+        let def = def_by(self.edits.store(&self.store), n, deed);
         let version = version_by(&self.edits, n, deed);
-        let entry = entry_by(&self.tree, &self.steps, &self.vars, version, n, deed)?;
-        Ok(Made { entry, plan })
+        let entry = entry_by(&self.tree, &self.steps, &self.vars, version, n, deed);
+        Made { entry, def }
     }
 
     /// Goes on with an entry of a node that fits.
-    pub fn follow(&mut self, entry: Entry, plan: Option<Plan>)
+    pub fn follow(&mut self, entry: Entry, def: Option<Def>)
         requires room { length self.old.list < self.old.room }
         requires node { is_plain entry ≡ true }
         requires fits { Fits (rules_of self.old.project self.old.script) self.old.list entry }
-        requires planned { IsPlanned (store_after self.old.script self.old.project self.old.list) entry plan }
+        requires defined { IsDefined (store_after self.old.script self.old.project self.old.list) entry def }
         requires in_order { IsNextOf ((rules_of self.old.project self.old.script).tree self.old.list) (plain self.old.list) entry }
         ensures { self.new ≡ record self.old { list = self.old.list ++ entry ∷ [] } }
     {
@@ -375,7 +366,7 @@ impl RunState {
         places_are_found();
         self.tree.channel_table();
         let channel = channel_of(&self.tree, &entry);
-        self.steps.follow(channel, &entry, plan);
+        self.steps.follow(channel, &entry, def);
         self.edits.follow(&entry);
         marks::follow(&mut self.marks, &self.tree, &entry);
         variables::follow(&mut self.vars, &self.tree, &entry);

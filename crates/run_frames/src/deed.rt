@@ -16,7 +16,7 @@ pub enum Deed {
     /// A message is shown.
     Notes,
     /// One of `count` elements is picked, of which the first `picked` were.
-    Picks { count: usize, picked: usize },
+    Picks { count: u32, picked: usize },
     /// A condition is tested.
     Tests,
 }

@@ -84,7 +84,7 @@ impl<Q: Question> PlaceQuestion for ByNumber<'_, Q> {
 }
 
 /// What a node of this kind does next, with so many elements, by its frame. A workplan or a parallel does nothing itself.
-fn deed_at(kind: Kind, frame: Frame, count: usize) -> Deed
+fn deed_at(kind: Kind, frame: Frame, count: u32) -> Deed
     requires no_plan { kind ≢ kinds.Plan }
     requires no_parallel { kind ≢ kinds.Par }
     ensures { deed_offer result ≡ offer_at kind (told frame) count }
@@ -168,7 +168,7 @@ impl Frames {
         deed_at(
             node.kind.kind(),
             frame_at(&self.frames, place),
-            node.elements.as_slice().len(),
+            node.elements.len(),
         )
     }
 

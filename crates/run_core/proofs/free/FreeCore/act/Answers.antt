@@ -6,8 +6,8 @@ use Rattle.project_law.specs.ProjectRules.{rules_of}
 use Rattle.run_core.proofs.CoreLemmas.{ready_has, ready_enabled, is_ready}
 use Rattle.run_core.proofs.free.FreeCore.act.Goals as goal
 
-pub made-requires : goal.made-requires
-made-requires c =
+pub made-it-requires : goal.made-it-requires
+made-it-requires c =
     let p = c.args.self.now.project in
     let s = c.args.self.now.script in
     let t = c.args.self.now.log in
@@ -20,6 +20,6 @@ append-requires-clause-fits c =
     let s = c.args.self.now.script in
     let t = c.args.self.now.log in
     let e : ready (rules_of p s) t c.args.channel ≡ Some c.unwrap-n.result.node = sym c.ready.ensures.node ∙ ap (option_map (λ it. it.node)) c.unwrap-n.ensures in
-    subst (Fits (rules_of p s) t) (sym c.in_ok-it.ensures.entry)
+    subst (Fits (rules_of p s) t) (sym c.made-it.ensures.entry)
     (c.what_is_made_fits.ensures (rules_of p s) t c.unwrap-n.result.node c.legal.ensures.sound c.legal.ensures.legal (is_ready (rules_of p s) c.args.self.now.limit t c.requires.stands).not_due
     (ready_has (rules_of p s) t c.args.channel c.unwrap-n.result.node e) (ready_enabled (rules_of p s) t c.args.channel c.unwrap-n.result.node e))

@@ -1,9 +1,8 @@
 use Rattle.std.proofs.Common.{subst}
-use Rattle.std.specs.Prelude.{IfOk}
 use Rattle.project_law.specs.Script.{store_after}
-use Rattle.run_core.specs.Kept.{IsPlanned}
+use Rattle.run_core.specs.Kept.{IsDefined}
 use Rattle.run_core.specs.Core.{Run}
 use Rattle.run_core.proofs.free.FreeCore.made.Goals as goal
 
-pub returns-clause-planned : goal.returns-clause-planned
-returns-clause-planned c = subst (λ (v : Run). IfOk c.made.result (λ it. IsPlanned (store_after v.script v.project v.log) it.entry it.plan)) c.self.view_is c.made.ensures.planned
+pub returns-clause-defined : goal.returns-clause-defined
+returns-clause-defined c = subst (λ (v : Run). IsDefined (store_after v.script v.project v.log) c.made.result.entry c.made.result.def) c.self.view_is c.made.ensures.defined

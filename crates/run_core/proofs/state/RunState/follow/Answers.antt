@@ -20,7 +20,7 @@ use Rattle.trace_law.specs.Below.{tree_in}
 use Rattle.project_law.specs.ProjectRules.{rules_of}
 use Rattle.entity_types.specs.declared.edit.Edit.{Edit as ScriptEdit}
 use Rattle.project_law.specs.Script.{store_after}
-use Rattle.run_core.specs.Kept.{State, IsState, IsPlanned}
+use Rattle.run_core.specs.Kept.{State, IsState, IsDefined}
 use Rattle.run_core.specs.Edits.{AreKept}
 use Rattle.run_core.proofs.QuestionLemmas.{filter_has}
 use Rattle.run_core.proofs.KindLemmas.{store_done_by, works_has}
@@ -52,7 +52,7 @@ invariant_of-self c =
     let e = tree_of (entity_at p) (main_of p) in
     let d = c.trees_are_sound.ensures.distinct nothing_seen (entity_at p) (main_of p) k.tree_is.no_fault in
     let fits : Fits (rules_of p s) t x = subst (λ (v : State). Fits (rules_of v.project v.script) v.list x) (sym c.self.view_is) c.requires.fits in
-    let planned : IsPlanned (store_after s p t) x c.args.plan = subst (λ (v : State). IsPlanned (store_after v.script v.project v.list) x c.args.plan) (sym c.self.view_is) c.requires.planned in
+    let defined : IsDefined (store_after s p t) x c.args.def = subst (λ (v : State). IsDefined (store_after v.script v.project v.list) x c.args.def) (sym c.self.view_is) c.requires.defined in
     let of_node : IsOfNode (rules_of p s) t x = is_of_node (rules_of p s) t x c.requires.node fits in
     let n = of_node.n in
     let sound = c.project_rules_are_sound.ensures.sound p s k.tree_is.no_fault in
@@ -62,7 +62,7 @@ invariant_of-self c =
     let goes : has (next e u) n ≡ true = subst (λ (o : Option ℕ). has_some (next e u) o ≡ true) of_node.number off.0 in
     let here : has (exec.nodes e) n ≡ true = filter_has (has (next e u)) (exec.nodes e) n (subst (λ (ns : List ℕ). has ns n ≡ true) (c.next_stands_in_preorder.ensures.order e (plain t) d) goes) in
     let done = store_done_by (entity_at p) (main_of p) u n here in
-    let entered : Entered p s c.self.inside.tree t x n c.args.plan = record {
+    let entered : Entered p s c.self.inside.tree t x n c.args.def = record {
       number = of_node.number;
       legal = c.legal_runs.ensures.more (rules_of p s) t x k.legal fits;
       said = c.trees_tell.ensures.said nothing_seen (entity_at p) (main_of p) n c.self.inside.tree k.tree_is
@@ -71,15 +71,15 @@ invariant_of-self c =
       done = done;
       numbered = λ m place f. c.places_are_found.ensures.numbered c.self.inside.tree.nodes m place f;
       vars = λ v. c.project_rules_move.ensures.vars p s t x v;
-      follows = follows_is p s t x n c.args.plan of_node.number of_node.fits off.1 done
+      follows = follows_is p s t x n c.args.def of_node.number of_node.fits off.1 done
           (λ h. works_has (entity_at p) (main_of p) n (c.trees_are_sound.ensures.nodes (entity_at p) (main_of p)) (c.trees_are_sound.ensures.steps (entity_at p) (main_of p)) here h)
           (λ w. sound.steps t n k.legal w) (λ j f. sym (c.logs_move.ensures.plain_stage t n) ∙ c.blocks_are_counted.ensures.offered e u n j f)
-          (λ m f. c.project_rules_move.ensures.kept p s t x m f) (λ m v. c.project_rules_move.ensures.dispatched p s t m v) planned;
+          (λ m f. c.project_rules_move.ensures.kept p s t x m f) (λ m v. c.project_rules_move.ensures.dispatched p s t m v) defined;
     } in
     let held : Part (tree_in c.self.inside.tree) (u ++ x ∷ []) = subst (λ (y : Exec). Part y (u ++ x ∷ [])) (sym k.tree_is.held) part in
     let now_at : IsAt c.self.inside.tree.nodes c.advance.new.self (u ++ x ∷ []) = c.advance.ensures u k.at held in
     let kept = state_follows p s c.self.inside.tree c.self.inside.frames c.advance.new.self t c.self.inside.marks c.follow-3.new.marks c.self.inside.vars c.follow-4.new.vars c.self.inside.steps c.follow.new.self
-    x n c.args.plan c.channel_of-channel.result k entered now_at c.follow-3.ensures.count c.follow-3.ensures.flags c.follow-4.ensures
+    x n c.args.def c.channel_of-channel.result k entered now_at c.follow-3.ensures.count c.follow-3.ensures.flags c.follow-4.ensures
     (c.channel_of-channel.ensures ∙ (ap (λ (o : Option ℕ). option_map_or (λ m. channel_in c.self.inside.tree.nodes m) o 0) of_node.number
     ∙ c.trees_tell.ensures.channels nothing_seen (entity_at p) (main_of p) n c.self.inside.tree k.tree_is))
     c.follow.ensures in

@@ -66,7 +66,7 @@ returns c = λ t at h.
     let some : slice_get c.args.tree.now.nodes c.in-Found.place ≡ Some (bare_of node) = sym (ap (λ (arena : List BareNode). slice_get arena c.in-Found.place) c.nodes-arena.ensures.nodes) ∙ seen_some c.nodes-arena.result.now c.in-Found.place _ node c.node_at.ensures (ap option_copied c.in-Some.is) in
     let frame = c.frame_at.ensures ∙ ap (λ (l : List Frame). frame_at l c.in-Found.place) c.deref-2.ensures.value in
     c.deed_at.ensures
-    ∙ (ap (λ (k : Kind). offer_at k (told c.frame_at.result) (length c.as_slice.result.now)) c.kind.ensures
-    ∙ (ap (λ (f : Frame). offer_at (kind_of_node node.kind) (told f) (length c.as_slice.result.now)) frame
-    ∙ (ap (λ (l : List ℕ). offer_at (kind_of_node node.kind) (cells_of c.args.self.now.frames.items c.in-Found.place) (length l)) c.as_slice.ensures
+    ∙ (ap (λ (k : Kind). offer_at k (told c.frame_at.result) c.len.result) c.kind.ensures
+    ∙ (ap (λ (f : Frame). offer_at (kind_of_node node.kind) (told f) c.len.result) frame
+    ∙ (ap (λ (count : ℕ). offer_at (kind_of_node node.kind) (cells_of c.args.self.now.frames.items c.in-Found.place) count) c.len.ensures
     ∙ (sym (ap (λ (o : Option BareNode). offer_there o (cells_of c.args.self.now.frames.items c.in-Found.place)) some) ∙ sym deed.0))))

@@ -3,7 +3,7 @@ use Rattle.run_log.specs.declared.entry.Entry.{Entry}
 use Rattle.run_law.specs.Replay.{has_ended, turns_of, rounds}
 use Rattle.project_law.specs.ProjectRules.{rules_of, channel_numbers, upto}
 use Rattle.project_law.specs.Run.{IsRun}
-use Rattle.run_core.proofs.replaying.replay_named.Goals as goal
+use Rattle.run_core.proofs.replaying.run.Goals as goal
 
 pub ending-ending-requires : goal.ending-ending-requires
 ending-ending-requires g c =
@@ -13,7 +13,7 @@ ending-ending-requires g c =
     let limit = g.N.RunName.limit in
     let channels : c.as_slice.result.now ≡ channel_numbers p = c.as_slice.ensures.value ∙ (c.in_ok-channels.ensures ∙ ap upto c.channels.ensures) in
     let scheduled : c.turns.new.core.0 ≡ turns_of r limit [] c.args.schedule.now =
-    c.in_ok-turns.ensures.log ∙ ap (λ (v : List Entry × List ℕ). turns_of r limit v.0 c.args.schedule.now) c.in_ok-core.ensures in
+    c.in_ok-turns.ensures.log ∙ ap (λ (t : List Entry). turns_of r limit t c.args.schedule.now) c.requires.anew in
     let all : c.rounds.new.core.0 ≡ rounds r limit (channel_numbers p) limit (turns_of r limit [] c.args.schedule.now) =
     c.in_ok-rounds.ensures ∙ (ap (λ (cs : List ℕ). rounds r limit cs limit c.turns.new.core.0) channels ∙ ap (rounds r limit (channel_numbers p) limit) scheduled) in
     subst (λ (t : List Entry). has_ended r limit t ≡ true) (sym all)
