@@ -3,22 +3,20 @@
 ghost use Rattle.std.specs.Prelude.{◌<◌};
 
 use crate::expected::expect;
-use place_set::PlaceSet;
+use place_set::{MAX_PLACES, PlaceSet};
 use std::process::Abort;
 use std::test::Fail;
 
 /// Places in turn: each goes in where it is out, and out where it is in. They lie at the ends of the words of each level.
-const TURNS: [u16; 34] = [
-    65_535, 64, 63, 0, 64, 4_096, 4_095, 0, 63, 63, 4_095, 4_159, 4_160, 4_096, 4_159, 63, 4_160,
-    65_535, 65_472, 65_471, 61_440, 61_439, 65_472, 61_439, 65_471, 61_440, 128, 1, 0, 128, 0, 1,
-    2, 2,
+const TURNS: [u32; 36] = [
+    262_143, 64, 63, 0, 64, 4_096, 4_095, 0, 63, 63, 4_095, 4_159, 4_160, 4_096, 4_159, 63, 4_160,
+    262_143, 65_472, 65_471, 258_048, 258_047, 65_472, 258_047, 65_471, 258_048, 65_535, 65_536,
+    128, 1, 65_535, 128, 65_536, 1, 2, 2,
 ];
 
-fn expect_places(rt: &impl Abort, set: &PlaceSet, list: &[u32]) {
-    for place in TURNS {
-        let place = u32::from(place);
-        expect(rt, set.contains(place), list.contains(&place));
-    }
+fn expect_place(rt: &impl Abort, set: &PlaceSet, list: &[u32], place: u32) {
+    assert!(rt; place < MAX_PLACES);
+    expect(rt, set.contains(place), list.contains(&place));
 }
 
 fn expect_least(rt: &impl Abort, set: &PlaceSet, list: &[u32]) {
@@ -27,7 +25,7 @@ fn expect_least(rt: &impl Abort, set: &PlaceSet, list: &[u32]) {
 }
 
 fn turn(set: &mut PlaceSet, list: &mut Vec<u32>, place: u32) -> Result<(), Fail>
-    requires { place < 65536 }
+    requires { place < MAX_PLACES }
 {
     if set.contains(place) {
         set.remove(place);
@@ -43,10 +41,12 @@ fn turn(set: &mut PlaceSet, list: &mut Vec<u32>, place: u32) -> Result<(), Fail>
 fn sets_hold_what_lists_hold(rt: HostRuntime) -> Result<(), Fail> {
     let mut set = PlaceSet::new();
     let mut list = Vec::new(rt.alloc());
-    expect_least(&rt, &set, &list);
     for place in TURNS {
-        turn(&mut set, &mut list, u32::from(place))?;
-        expect_places(&rt, &set, &list);
+        assert!(&rt; place < MAX_PLACES);
+        turn(&mut set, &mut list, place)?;
+        for other in TURNS {
+            expect_place(&rt, &set, &list, other);
+        }
         expect_least(&rt, &set, &list);
     }
     assert!(&rt; set.is_empty());

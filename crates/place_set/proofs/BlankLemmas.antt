@@ -17,19 +17,18 @@ zeros n word e w =
 no_bits : (n word : ℕ) → word ≡ 0 → (i : ℕ) → bit_of (replicate n word) i ≡ 0
 no_bits n word e i = no_bit (replicate n word) i (zeros n word e (i / 64))
 
-pub blank : (word : ℕ) → word ≡ 0 → IsSummed (replicate 1024 word) (replicate 16 word) (replicate 1 word)
+pub blank : (word : ℕ) → word ≡ 0 → IsSummed (replicate 4096 word) (replicate 64 word) (replicate 1 word)
 blank word e =
     record {
-      low_length = length-replicate 1024 word;
-      mid_length = length-replicate 16 word;
+      low_length = length-replicate 4096 word;
+      mid_length = length-replicate 64 word;
       top_length = length-replicate 1 word;
-      low_sums = λ w l. (λ h. zeros 1024 word e w, λ h. no_bits 16 word e w);
-      mid_sums = λ w l. (λ h. zeros 16 word e w, λ h. no_bits 1 word e w);
-      top_ends = λ w l. no_bits 1 word e w;
+      low_sums = λ w l. (λ h. zeros 4096 word e w, λ h. no_bits 64 word e w);
+      mid_sums = λ w l. (λ h. zeros 64 word e w, λ h. no_bits 1 word e w);
     }
 
-pub none : (word : ℕ) → word ≡ 0 → (q : ℕ) → holds (replicate 1024 word) q ≡ false
-none word e q = go (no_bits 1024 word e q)
+pub none : (word : ℕ) → word ≡ 0 → (q : ℕ) → holds (replicate 4096 word) q ≡ false
+none word e q = go (no_bits 4096 word e q)
   where
-    go : bit_of (replicate 1024 word) q ≡ 0 → holds (replicate 1024 word) q ≡ false
+    go : bit_of (replicate 4096 word) q ≡ 0 → holds (replicate 4096 word) q ≡ false
     go h = grind (arith, nat_tests)

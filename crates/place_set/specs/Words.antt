@@ -1,5 +1,5 @@
 -- Sets of places as bits of words, and the words above that say which words aren't zero.
-use Rattle.std.specs.Prelude.{◌≡◌, ◌<◌, ◌≤◌, ◌↔◌, ◌/◌, ◌%◌, ◌==◌, ℕ, Bool, List, length, slice_index}
+use Rattle.std.specs.Prelude.{◌≡◌, ◌<◌, ◌↔◌, ◌/◌, ◌%◌, ◌==◌, ℕ, Bool, List, length, slice_index}
 use Rattle.std.specs.Int.{bit_at}
 
 -- bit i of these words, 64 to the word
@@ -16,9 +16,8 @@ SumsUp below above = (w : ℕ) → w < length below → ((bit_of above w ≡ 0) 
 
 -- three levels of words, each summed up by the next
 pub record IsSummed (low mid top : List ℕ) : Type 0 where
-  pub low_length : length low ≡ 1024
-  pub mid_length : length mid ≡ 16
+  pub low_length : length low ≡ 4096
+  pub mid_length : length mid ≡ 64
   pub top_length : length top ≡ 1
   pub low_sums : SumsUp low mid
   pub mid_sums : SumsUp mid top
-  pub top_ends : (w : ℕ) → 16 ≤ w → bit_of top w ≡ 0

@@ -6,15 +6,16 @@ ghost use Rattle.place_set.specs.Words.{holds};
 use crate::words::{clear_bit, first_of_word, has_bit, set_bit};
 use std::marker::Model;
 
-/// How many places there are: those from 0 on below this.
-pub const MAX_PLACES: u32 = 65_536;
+/// How many places there are, those from 0 on below this: as many as three levels of words have bits. A tree has fewer nodes, those of branches
+/// that are left out included.
+pub const MAX_PLACES: u32 = 262_144;
 
 /// A set of places below `MAX_PLACES`. Contracts see which are in it, by `holds`. A bit of a level stands for a word of the level below that
 /// isn't zero.
 #[derive(Drop)]
 pub struct PlaceSet {
-    low: [u64; 1024],
-    mid: [u64; 16],
+    low: [u64; 4096],
+    mid: [u64; 64],
     top: [u64; 1],
 }
 
@@ -35,8 +36,8 @@ impl PlaceSet {
         ensures { (q : ℕ) → holds result q ≡ false }
     {
         PlaceSet {
-            low: [word; 1024],
-            mid: [word; 16],
+            low: [word; 4096],
+            mid: [word; 64],
             top: [word; 1],
         }
     }
