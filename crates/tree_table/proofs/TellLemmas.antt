@@ -1,5 +1,5 @@
 -- Where the run goes on: what the pass from the root down tells.
-use Rattle.std.specs.Prelude.{◌≡◌, ◌<◌, ◌-◌, ◌+◌, ◌==◌, ℕ, zero, suc, Bool, true, false, if◌then◌else◌, List, [], ◌∷◌, ◌++◌, length, drop, slice_get, Option, Some, None}
+use Rattle.std.specs.Prelude.{◌≡◌, ◌<◌, ◌-◌, ◌+◌, ◌==◌, nat_le, ℕ, zero, suc, Bool, true, false, if◌then◌else◌, List, [], ◌∷◌, ◌++◌, length, drop, slice_get, Option, Some, None}
 use Rattle.std.proofs.Common.{refl, sym, ◌∙◌, ap, subst, arith, get_or}
 use Rattle.std.proofs.lemmas.Bool.Decides.{nat_tests}
 use Rattle.exec_tree.specs.Exec.{Exec, Work, Leaf, Plan, Par, NonSeq, Sel, If, While, Execs, None_left, Then, nodes, nodes_all, has, AreDistinct}
@@ -13,14 +13,17 @@ use Rattle.trace_law.specs.Leading.{has_none, leads, leads_first}
 use Rattle.tree_table.specs.Placed.{place_for, placed_down, placed_all}
 use Rattle.tree_table.specs.Within.{own_number, is_number}
 use Rattle.tree_table.specs.Rows.{into_at, after_at, levels_at, link_of, AreLinkedBack}
-use Rattle.tree_table.specs.Filled.{first_place, into_of, first_into, with_after, Led, LedAll, opens_or, joins_or, inner, Told, ToldInOrder, ToldAll, AreSameBut, IsTold, AreTold, AreToldInOrder}
+use Rattle.tree_table.specs.Filled.{first_place, into_of, first_into, with_after, IsLed, Led, LedAll, opens_or, joins_or, inner, Told, ToldInOrder, ToldAll, AreSameBut, IsTold, AreTold, AreToldInOrder}
 use Rattle.tree_table.specs.declared.row.Continuation.{Continuation}
 use Rattle.tree_table.specs.declared.row.Continuation.TheVariants.{Opens, Joins, PicksOn, TestsAgain}
 use Rattle.tree_table.specs.declared.row.Row.{Row}
 use Rattle.tree_table.proofs.ListLemmas.{clash, same_number, has_left, has_right, has_self, has_rest, not_left, not_right, not_rest, once_left, once_right, once_back, drop_at}
 use Rattle.tree_table.proofs.RowLemmas.{put_after, put_into, put_same, same_none, same_more, same_both}
 use Rattle.tree_table.proofs.NodeLemmas.{nodes_of, once_behind}
-use Rattle.tree_table.proofs.LeadLemmas.{LeadAlike, led_kept, led_all_kept, lead_each, is_some}
+use Rattle.tree_table.proofs.LeadLemmas.{led_kept, led_all_kept, lead_each, is_some, is_none, going_none}
+
+same_some : (p q : ℕ) → Some p ≡ Some q → p ≡ q
+same_some p q e = cc
 
 -- ---- rows that stay
 
@@ -150,6 +153,9 @@ pub plan_told : (arena : List BareNode) (old new : List Row) (p : ℕ) (es : Exe
 plan_told arena old new p es c into q l d led before b i s =
     record { told = (own_told old new p c (nodes_all es) l d.0 s.same, s.told); into = i ∙ led.0.into; same = own_same old new p c (nodes_all es) l before b s.same }
 
+none_shared : (es : Execs) → has_none (next_each es []) ≡ true → is_shared es ≡ false
+none_shared es h = ap (nat_le 2) (going_none es (is_none (next_each es []) h))
+
 -- a parallel leads to itself exactly where it is shared
 other_place : (p : ℕ) (ns : List ℕ) (q : Option ℕ) (r : ℕ) → q ≡ Some r → has ns r ≡ true → has ns p ≡ false → is_number q p ≡ false
 other_place p ns q r e i o = rw e (go (r == p) refl)
@@ -194,3 +200,70 @@ kind_told arena rows levels kind.Assign p places shared c a n h o s = o
 kind_told arena rows levels kind.Set p places shared c a n h o s = o
 kind_told arena rows levels kind.Wait p places shared c a n h o s = o
 kind_told arena rows levels kind.Note p places shared c a n h o s = o
+
+-- the row of its own, and those of its elements
+own_led : (arena : List BareNode) (rows : List Row) (levels : ℕ) (k : Kind) (p : ℕ) (places : List ℕ) → Led arena rows (of_kind k (Some p) (placed_all arena levels places)) → IsLed arena rows p (of_kind k (Some p) (placed_all arena levels places))
+own_led arena rows levels kind.Plan p places s = s.0
+own_led arena rows levels kind.Par p places s = s.0
+own_led arena rows levels kind.NonSeq p places s = s.0
+own_led arena rows levels kind.Sel p places s = s.0
+own_led arena rows levels kind.If p places s = s.0
+own_led arena rows levels kind.While p places s = s.0
+own_led arena rows levels kind.Work p places s = s
+own_led arena rows levels kind.Assign p places s = s
+own_led arena rows levels kind.Set p places s = s
+own_led arena rows levels kind.Wait p places s = s
+own_led arena rows levels kind.Note p places s = s
+
+pub elements_led : (arena : List BareNode) (rows : List Row) (levels : ℕ) (k : Kind) (p : ℕ) (places : List ℕ) → HasArity k places → Led arena rows (of_kind k (Some p) (placed_all arena levels places)) → LedAll arena rows (to_execs (placed_all arena levels places))
+elements_led arena rows levels kind.Plan p places a s = s.1
+elements_led arena rows levels kind.Par p places a s = s.1
+elements_led arena rows levels kind.NonSeq p places a s = s.1
+elements_led arena rows levels kind.Sel p places a s = s.1
+elements_led arena rows levels kind.If p [] a s = absurd a
+elements_led arena rows levels kind.If p (q ∷ []) a s = absurd a
+elements_led arena rows levels kind.If p (q ∷ r ∷ []) a s = (s.1, (s.2, tt))
+elements_led arena rows levels kind.If p (q ∷ r ∷ t ∷ places) a s = absurd a
+elements_led arena rows levels kind.While p [] a s = absurd a
+elements_led arena rows levels kind.While p (q ∷ []) a s = (s.1, tt)
+elements_led arena rows levels kind.While p (q ∷ r ∷ places) a s = absurd a
+elements_led arena rows levels kind.Work p places a s = rw a tt
+elements_led arena rows levels kind.Assign p places a s = rw a tt
+elements_led arena rows levels kind.Set p places a s = rw a tt
+elements_led arena rows levels kind.Wait p places a s = rw a tt
+elements_led arena rows levels kind.Note p places a s = rw a tt
+
+-- of a kind that is no workplan: its nodes stand once, its own apart from those of its elements
+pub once_of : (arena : List BareNode) (levels : ℕ) (k : Kind) (p : ℕ) (places : List ℕ) → HasArity k places → (k ≡ kind.Plan → ⊥) → AreDistinct (nodes (of_kind k (Some p) (placed_all arena levels places))) → AreDistinct (p ∷ nodes_all (to_execs (placed_all arena levels places)))
+once_of arena levels k p places a n d = subst AreDistinct (nodes_of arena levels k p places a n) d
+
+-- what the elements' continuation links to lies before them
+pub inner_behind : (k : Kind) (shared : Bool) (p : ℕ) (c : Continuation) → ((q : ℕ) → link_of c ≡ Some q → q < p) → (q r : ℕ) → link_of (inner k shared p c) ≡ Some q → p < r → q < r
+inner_behind kind.Plan shared p c h q r e l = let f = h q e in omega (arith, f, l)
+inner_behind kind.Par true p c h q r e l = let f : p ≡ q = same_some p q e in omega (arith, f, l)
+inner_behind kind.Par false p c h q r e l = let f = h q e in omega (arith, f, l)
+inner_behind kind.NonSeq shared p c h q r e l = let f : p ≡ q = same_some p q e in omega (arith, f, l)
+inner_behind kind.Sel shared p c h q r e l = let f = h q e in omega (arith, f, l)
+inner_behind kind.If shared p c h q r e l = let f = h q e in omega (arith, f, l)
+inner_behind kind.While shared p c h q r e l = absurd (let w : None ≡ Some q = e in cc)
+inner_behind kind.Work shared p c h q r e l = let f = h q e in omega (arith, f, l)
+inner_behind kind.Assign shared p c h q r e l = let f = h q e in omega (arith, f, l)
+inner_behind kind.Set shared p c h q r e l = let f = h q e in omega (arith, f, l)
+inner_behind kind.Wait shared p c h q r e l = let f = h q e in omega (arith, f, l)
+inner_behind kind.Note shared p c h q r e l = let f = h q e in omega (arith, f, l)
+
+pub inner_told : (arena : List BareNode) (old new : List Row) (levels : ℕ) (k : Kind) (p : ℕ) (places : List ℕ) (c inside : Continuation) (into : Option ℕ) (shared : Bool) → p < length old → HasArity k places → (k ≡ kind.Plan → ⊥) → AreDistinct (nodes (of_kind k (Some p) (placed_all arena levels places)))
+    → Led arena old (of_kind k (Some p) (placed_all arena levels places)) → ((r : ℕ) → link_of c ≡ Some r → r < p) → AreLinkedBack old → into ≡ into_at old p → shared ≡ is_number into p → inside ≡ inner k shared p c
+    → AreTold (with_after old p c) new (to_execs (placed_all arena levels places)) inside → IsTold old new (of_kind k (Some p) (placed_all arena levels places)) c into
+inner_told arena old new levels k p places c inside into shared l a n d led before b i sh ins s =
+    let es = to_execs (placed_all arena levels places) in
+    let once = once_of arena levels k p places a n d in
+    let own = own_led arena old levels k p places led in
+    record {
+      told = kind_told arena new levels k p places shared c a n
+      (λ e.
+          sh ∙ (ap (λ (o : Option ℕ). is_number o p) (i ∙ (own.into ∙ ap (λ (j : Kind). into_of (of_kind j (Some p) (placed_all arena levels places))) e)) ∙ shared_by p es once.0))
+      (own_told old new p c (nodes_all es) l once.0 s.same) (subst (λ (g : Continuation). ToldAll new es g) ins s.told);
+      into = i ∙ own.into;
+      same = subst (AreSameBut old new) (sym (nodes_of arena levels k p places a n)) (own_same old new p c (nodes_all es) l before b s.same);
+    }
