@@ -89,10 +89,10 @@ mutual
 
 -- ---- the place to which opening leads, element by element
 
-into_none : (e : Exec) → next e [] ≡ [] → into_of e ≡ None
+pub into_none : (e : Exec) → next e [] ≡ [] → into_of e ≡ None
 into_none e h = ap (λ (l : List ℕ). if has_none l then None else own_number (leads e)) h
 
-into_some : (e : Exec) → (next e [] ≡ [] → ⊥) → into_of e ≡ own_number (leads e)
+pub into_some : (e : Exec) → (next e [] ≡ [] → ⊥) → into_of e ≡ own_number (leads e)
 into_some e h = ap (λ (b : Bool). if b then None else own_number (leads e)) (has_some (next e []) h)
 
 pub one_for_into : (e : Exec) → one_for (into_of e) ≡ one_where (next e [])

@@ -5,3 +5,4 @@ pub mod NodeLemmas
 pub mod OnceLemmas
 pub mod LeadLemmas
 pub mod TellLemmas
+pub mod TableLemmas
