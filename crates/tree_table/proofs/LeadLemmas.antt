@@ -12,7 +12,7 @@ use Rattle.trace_law.specs.Next.{first_of_two, next, next_in_order, next_each}
 use Rattle.trace_law.specs.Frames.{is_shared, one_where, going}
 use Rattle.trace_law.specs.Leading.{has_none, leads, leads_first}
 use Rattle.tree_table.specs.Placed.{place_for, placed_down, placed_all}
-use Rattle.tree_table.specs.Within.{own_number}
+use Rattle.tree_table.specs.Within.{own_number, is_workplan}
 use Rattle.tree_table.specs.Rows.{into_at, levels_at, executable_at, AreLinkedBack}
 use Rattle.tree_table.specs.Filled.{first_place, one_for, into_of, first_into, into_by, with_row, AreKeptBut, IsLed, Led, LedAll, IsMade, AreMade}
 use Rattle.tree_table.specs.declared.row.Continuation.TheVariants.{Done}
@@ -35,22 +35,22 @@ pub has_some : (l : List ℕ) → (l ≡ [] → ⊥) → has_none l ≡ false
 has_some [] h = absurd (h refl)
 has_some (n ∷ l) h = refl
 
--- the number of where e leads is one of these
+-- e is no workplan, and its number is one of these
 abbrev pub IsLead : Exec → List ℕ → Type 0
-IsLead e ns = (q : ℕ) × (own_number e ≡ Some q) × (has ns q ≡ true)
+IsLead e ns = (q : ℕ) × (own_number e ≡ Some q) × (has ns q ≡ true) × (is_workplan e ≡ false)
 
 lead_right : (e : Exec) (ms ns : List ℕ) → IsLead e ns → IsLead e (ms ++ ns)
-lead_right e ms ns l = (l.0, l.1, has_right ms ns l.0 l.2)
+lead_right e ms ns l = (l.0, l.1, has_right ms ns l.0 l.2, l.3)
 
 lead_left : (e : Exec) (ms ns : List ℕ) → IsLead e ms → IsLead e (ms ++ ns)
-lead_left e ms ns l = (l.0, l.1, has_left ms ns l.0 l.2)
+lead_left e ms ns l = (l.0, l.1, has_left ms ns l.0 l.2, l.3)
 
-lead_itself : (e : Exec) (n : ℕ) (ns : List ℕ) → own_number e ≡ Some n → IsLead e (n ∷ ns)
-lead_itself e n ns h = (n, h, has_self n ns)
+lead_itself : (e : Exec) (n : ℕ) (ns : List ℕ) → own_number e ≡ Some n → is_workplan e ≡ false → IsLead e (n ∷ ns)
+lead_itself e n ns h w = (n, h, has_self n ns, w)
 
 if_shared : (b : Bool) (n : ℕ) (es : Execs) → IsLead (leads_first es (Par n es)) (nodes_all es) → IsLead (if b then Par n es else leads_first es (Par n es)) (n ∷ nodes_all es)
-if_shared true n es l = lead_itself (Par n es) n (nodes_all es) refl
-if_shared false n es l = (l.0, l.1, has_rest n (nodes_all es) l.0 l.2)
+if_shared true n es l = lead_itself (Par n es) n (nodes_all es) refl refl
+if_shared false n es l = (l.0, l.1, has_rest n (nodes_all es) l.0 l.2, l.3)
 
 step_in_order : (e : Exec) (es : Execs) (itself : Exec) (b : Bool) → has_none (next e []) ≡ b → ((next e [] ≡ [] → ⊥) → IsLead (leads e) (nodes e)) → ((next_in_order es [] ≡ [] → ⊥) → IsLead (leads_first es itself) (nodes_all es)) → (first_of_two (next e []) (next_in_order es []) ≡ [] → ⊥)
     → IsLead (if b then leads_first es itself else leads e) (nodes e ++ nodes_all es)
@@ -66,18 +66,18 @@ step_each e es itself false h here later some = lead_left (leads e) (nodes e) (n
 
 number_right : (n : Option ℕ) (es : Execs) (f : Exec) → IsLead f (nodes_all es) → IsLead f (nodes (Plan n es))
 number_right None es f l = l
-number_right (Some n) es f l = (l.0, l.1, has_rest n (nodes_all es) l.0 l.2)
+number_right (Some n) es f l = (l.0, l.1, has_rest n (nodes_all es) l.0 l.2, l.3)
 
 mutual
   pub lead_of : (e : Exec) → (next e [] ≡ [] → ⊥) → IsLead (leads e) (nodes e)
-  lead_of (Work n) h = lead_itself (Work n) n [] refl
-  lead_of (Leaf n k) h = lead_itself (Leaf n k) n [] refl
+  lead_of (Work n) h = lead_itself (Work n) n [] refl refl
+  lead_of (Leaf n k) h = lead_itself (Leaf n k) n [] refl refl
   lead_of (Plan n es) h = number_right n es (leads_first es (Plan n es)) (lead_in_order es (Plan n es) h)
   lead_of (Par n es) h = if_shared (is_shared es) n es (lead_each es (Par n es) h)
-  lead_of (NonSeq n es) h = lead_itself (NonSeq n es) n (nodes_all es) refl
-  lead_of (Sel n es) h = lead_itself (Sel n es) n (nodes_all es) refl
-  lead_of (If n a b) h = lead_itself (If n a b) n (nodes a ++ nodes b) refl
-  lead_of (While n a) h = lead_itself (While n a) n (nodes a) refl
+  lead_of (NonSeq n es) h = lead_itself (NonSeq n es) n (nodes_all es) refl refl
+  lead_of (Sel n es) h = lead_itself (Sel n es) n (nodes_all es) refl refl
+  lead_of (If n a b) h = lead_itself (If n a b) n (nodes a ++ nodes b) refl refl
+  lead_of (While n a) h = lead_itself (While n a) n (nodes a) refl refl
 
   pub lead_in_order : (es : Execs) (itself : Exec) → (next_in_order es [] ≡ [] → ⊥) → IsLead (leads_first es itself) (nodes_all es)
   lead_in_order None_left itself h = absurd (h refl)

@@ -50,10 +50,10 @@ single n m h = go (n == m) refl
     go false e = absurd (let w : false ≡ true = rest_has n [] m h e in cc)
 
 -- f stands at p, and its nodes are of these
-record IsPart (arena : List BareNode) (rows : List Row) (ns : List ℕ) (p : ℕ) (f : Exec) : Type 0 where
-  led : Led arena rows f
-  own : IsLed arena rows p f
-  inside : (q : ℕ) → has (nodes f) q ≡ true → has ns q ≡ true
+pub record IsPart (arena : List BareNode) (rows : List Row) (ns : List ℕ) (p : ℕ) (f : Exec) : Type 0 where
+  pub led : Led arena rows f
+  pub own : IsLed arena rows p f
+  pub inside : (q : ℕ) → has (nodes f) q ≡ true → has ns q ≡ true
 
 wider : (arena : List BareNode) (rows : List Row) (ms ns : List ℕ) (p : ℕ) (f : Exec) → ((q : ℕ) → has ms q ≡ true → has ns q ≡ true) → IsPart arena rows ms p f → IsPart arena rows ns p f
 wider arena rows ms ns p f h s = record { led = s.led; own = s.own; inside = λ q i. h q (s.inside q i) }
@@ -62,7 +62,7 @@ itself_part : (arena : List BareNode) (rows : List Row) (n p : ℕ) (f : Exec) �
 itself_part arena rows n p f l o e = record { led = l; own = subst (λ (q : ℕ). IsLed arena rows q f) e o; inside = λ q i. i }
 
 mutual
-  part_of : (arena : List BareNode) (rows : List Row) (e : Exec) (p : ℕ) → Led arena rows e → has (nodes e) p ≡ true → IsPart arena rows (nodes e) p (within e p)
+  pub part_of : (arena : List BareNode) (rows : List Row) (e : Exec) (p : ℕ) → Led arena rows e → has (nodes e) p ≡ true → IsPart arena rows (nodes e) p (within e p)
   part_of arena rows (Work n) p s h = itself_part arena rows n p (Work n) s s (single n p h)
   part_of arena rows (Leaf n k) p s h = itself_part arena rows n p (Leaf n k) s s (single n p h)
   part_of arena rows (Plan None es) p s h = part_of_all arena rows es p s h
@@ -88,7 +88,7 @@ mutual
       choose (IsPart arena rows (n ∷ nodes a) p) n p (nodes a) (While n a) (within a p) (itself_part arena rows n p (While n a) s s.0)
       (λ i. wider arena rows (nodes a) (n ∷ nodes a) p (within a p) (has_rest n (nodes a)) (part_of arena rows a p s.1 i)) h
 
-  part_of_all : (arena : List BareNode) (rows : List Row) (es : Execs) (p : ℕ) → LedAll arena rows es → has (nodes_all es) p ≡ true → IsPart arena rows (nodes_all es) p (within_all es p)
+  pub part_of_all : (arena : List BareNode) (rows : List Row) (es : Execs) (p : ℕ) → LedAll arena rows es → has (nodes_all es) p ≡ true → IsPart arena rows (nodes_all es) p (within_all es p)
   part_of_all arena rows None_left p s h = absurd (let w : false ≡ true = h in cc)
   part_of_all arena rows (Then e es) p s h =
       either (IsPart arena rows (nodes e ++ nodes_all es) p) (nodes e) (nodes_all es) p (within e p) (within_all es p)
@@ -315,6 +315,7 @@ table law arena rows long few l s b =
     record {
       long = long;
       few = few;
+      led = l;
       there = λ p h. (part_of arena rows (placed arena) p l h).own.there;
       into = λ p h.
           let f = part_of arena rows (placed arena) p l h in

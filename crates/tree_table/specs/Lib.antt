@@ -2,5 +2,5 @@ pub mod Placed
 pub mod Within
 pub mod Onward
 pub mod Rows
-pub mod Table
 pub mod Filled
+pub mod Table

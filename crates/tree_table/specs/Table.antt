@@ -10,6 +10,7 @@ use Rattle.tree_table.specs.Placed.{placed}
 use Rattle.tree_table.specs.Within.{within}
 use Rattle.tree_table.specs.Onward.{Onward, Done, Opens, Joins, PicksOn, TestsAgain, onward}
 use Rattle.tree_table.specs.Rows.{into_at, after_at, executable_at, AreLinkedBack}
+use Rattle.tree_table.specs.Filled.{Led}
 use Rattle.tree_table.specs.declared.row.Continuation.{Continuation}
 use Rattle.tree_table.specs.declared.row.Continuation.TheVariants as row
 use Rattle.tree_table.specs.declared.row.Row.{Row}
@@ -23,6 +24,10 @@ pub record IsEntrance (arena : List BareNode) (rows : List Row) (q : ℕ) : Type
 abbrev pub LeadsTo : List BareNode → List Row → Exec → Option ℕ → Type 0
 LeadsTo arena rows e None = next e [] ≡ []
 LeadsTo arena rows e (Some q) = (next e [] ≡ [] → ⊥) × IsEntrance arena rows q × (executable_at arena rows q ≡ leads e)
+
+-- the node at a place has this element
+abbrev pub IsElement : List BareNode → ℕ → ℕ → Type 0
+IsElement arena p q = (node : BareNode) × (slice_get arena p ≡ Some node) × (has node.elements q ≡ true)
 
 -- how many elements the node at a place has
 abbrev pub count_at : List BareNode → ℕ → ℕ
@@ -40,6 +45,7 @@ Tells arena rows c (TestsAgain n) = c ≡ row.TestsAgain n
 pub record IsTable (arena : List BareNode) (rows : List Row) : Type 0 where
   pub long : length rows ≡ length arena
   pub few : length arena ≤ MAX_PLACES
+  pub led : Led arena rows (placed arena)
   pub there : (p : ℕ) → has (nodes (placed arena)) p ≡ true → executable_at arena rows p ≡ within (placed arena) p
   pub into : (p : ℕ) → has (nodes (placed arena)) p ≡ true → LeadsTo arena rows (executable_at arena rows p) (into_at rows p)
   pub after : (p : ℕ) → has (nodes (placed arena)) p ≡ true → Tells arena rows (after_at rows p) (onward (placed arena) Done p)

@@ -1,5 +1,5 @@
 -- Executables within an executable, by their numbers.
-use Rattle.std.specs.Prelude.{ℕ, Bool, false, ◌==◌, if◌then◌else◌, Option, Some, None}
+use Rattle.std.specs.Prelude.{ℕ, Bool, true, false, ◌==◌, if◌then◌else◌, Option, Some, None}
 use Rattle.exec_tree.specs.Exec.{Exec, Work, Leaf, Plan, Par, NonSeq, Sel, If, While, Execs, None_left, Then, nodes, has}
 
 -- the number of the executable itself
@@ -12,6 +12,10 @@ own_number (NonSeq n es) = Some n
 own_number (Sel n es) = Some n
 own_number (If n a b) = Some n
 own_number (While n a) = Some n
+
+abbrev pub is_workplan : Exec → Bool
+is_workplan (Plan n es) = true
+is_workplan _ = false
 
 -- there is a number, and it is this one
 abbrev pub is_number : Option ℕ → ℕ → Bool

@@ -8,11 +8,13 @@
 //! | laws | what the definitions mean | `onward_is_after` |
 //! | leading | the pass from the leaves up: where opening leads | |
 //! | telling | the pass from the root down: where the run goes on | |
+//! | opening | opening, by a table | |
 //! | nodes | the nodes of a tree by place | |
 #![tactic(auto)]
 
 mod leading;
 mod nodes;
+mod opening;
 mod row;
 mod table;
 mod telling;

@@ -1,20 +1,23 @@
 //! The table of a tree.
 
-ghost use Rattle.std.specs.Prelude.{◌≡◌, ◌≤◌, map, length, slice_get, IfOk, Some};
+ghost use Rattle.std.specs.Prelude.{◌≡◌, ◌≤◌, ◌-◌, ◌||◌, [], ℕ, true, map, length, IfOk};
 ghost use Rattle.exec_tree.specs.Arena.{AreShaped, IsClosed};
-ghost use Rattle.exec_tree.specs.Exec.{nodes, AreDistinct};
+ghost use Rattle.exec_tree.specs.Exec.{nodes, has, AreDistinct};
 ghost use Rattle.exec_tree.specs.Said.{bare_of};
 ghost use Rattle.place_set.specs.declared.set.TheConstants.{MAX_PLACES};
-ghost use Rattle.tree_table.specs.Placed.{placed};
-ghost use Rattle.tree_table.specs.Rows.{AreLinkedBack};
-ghost use Rattle.tree_table.specs.Table.{IsTable};
+ghost use Rattle.place_set.specs.Words.{holds};
+ghost use Rattle.trace_law.specs.Next.{next};
+ghost use Rattle.tree_table.specs.Placed.{placed, placed_down};
+ghost use Rattle.tree_table.specs.Rows.{levels_at, executable_at, AreLinkedBack};
+ghost use Rattle.tree_table.specs.Table.{IsElement, IsEntrance, LeadsTo, IsTable};
 
 use crate::leading::lead_down;
+use crate::opening::{lead_at, levels_at, open_at};
 use crate::row::{Continuation, Row};
 use crate::telling::tell_down;
 use exec_tree::{MAX_TREE_NESTING, Node, Tree};
 use nc_base::NoMemory;
-use place_set::MAX_PLACES;
+use place_set::{MAX_PLACES, PlaceSet};
 use std::alloc::Global;
 use trace_law::laws::leads_opens;
 
@@ -77,5 +80,30 @@ impl Table {
         ensures { result.now ≡ self.now.rows.items }
     {
         self.rows.as_slice()
+    }
+
+    /// The place to which opening an element of the node at a place leads, none where the element has nothing to do.
+    pub fn element_into(&self, arena: &[Node], place: u32, element: u32) -> Option<u32>
+        requires shaped { AreShaped (map bare_of arena.now) }
+        requires table { IsTable (map bare_of arena.now) self.now.rows.items }
+        requires inside { has (nodes (placed (map bare_of arena.now))) place ≡ true }
+        requires element { IsElement (map bare_of arena.now) place element }
+        ensures { LeadsTo (map bare_of arena.now) self.now.rows.items (placed_down (map bare_of arena.now) (levels_at self.now.rows.items place - 1) element) result }
+    {
+        leads_opens();
+        let rows = self.rows.as_slice();
+        lead_at(arena, rows, levels_at(rows, place).saturating_sub(1), element)
+    }
+
+    /// Opens the executable at a place to which opening leads: puts into the set where a run of it can go on before any entry. A parallel
+    /// opens what its elements lead to, and each other executable goes on at itself.
+    pub fn open(&self, arena: &[Node], set: &mut PlaceSet, place: u32)
+        requires shaped { AreShaped (map bare_of arena.now) }
+        requires closed { IsClosed (map bare_of arena.now) 0 (length arena.now) }
+        requires table { IsTable (map bare_of arena.now) self.now.rows.items }
+        requires entrance { IsEntrance (map bare_of arena.now) self.now.rows.items place }
+        ensures { (q : ℕ) → holds set.new q ≡ (holds set.old q || has (next (executable_at (map bare_of arena.now) self.now.rows.items place) []) q) }
+    {
+        open_at(arena, self.rows.as_slice(), set, place);
     }
 }
