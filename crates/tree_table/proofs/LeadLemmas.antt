@@ -310,7 +310,7 @@ own_made arena old mid levels p e r es first number l h i d same once s build =
       back = λ b. back_set mid p r within d (s.back b);
     }
 
-no_plan : (k : Kind) (n : Option ℕ) (p : ℕ) → (k ≡ kind.Plan → ⊥) → place_for k n p ≡ Some p
+pub no_plan : (k : Kind) (n : Option ℕ) (p : ℕ) → (k ≡ kind.Plan → ⊥) → place_for k n p ≡ Some p
 no_plan kind.Plan n p h = absurd (h refl)
 no_plan kind.Par n p h = refl
 no_plan kind.NonSeq n p h = refl
@@ -323,7 +323,7 @@ no_plan kind.Set n p h = refl
 no_plan kind.Wait n p h = refl
 no_plan kind.Note n p h = refl
 
-is_plan : (k : Kind) → (k ≡ kind.Plan) ⊎ (k ≡ kind.Plan → ⊥)
+pub is_plan : (k : Kind) → (k ≡ kind.Plan) ⊎ (k ≡ kind.Plan → ⊥)
 is_plan kind.Plan = inl refl
 is_plan kind.Par = inr (λ h. cc)
 is_plan kind.NonSeq = inr (λ h. cc)
@@ -362,7 +362,7 @@ kind_made_at arena old mid levels p k at places first number r a l (inr e) h i d
       back = s.back;
     }))
 
-place_is : (k : Kind) (n : Option ℕ) (p : ℕ) → (place_for k n p ≡ Some p) ⊎ ((place_for k n p ≡ None) × (k ≡ kind.Plan))
+pub place_is : (k : Kind) (n : Option ℕ) (p : ℕ) → (place_for k n p ≡ Some p) ⊎ ((place_for k n p ≡ None) × (k ≡ kind.Plan))
 place_is k n p = go k n (is_plan k)
   where
     go : (j : Kind) (m : Option ℕ) → (j ≡ kind.Plan) ⊎ (j ≡ kind.Plan → ⊥) → (place_for j m p ≡ Some p) ⊎ ((place_for j m p ≡ None) × (j ≡ kind.Plan))

@@ -6,3 +6,4 @@ pub mod OnceLemmas
 pub mod LeadLemmas
 pub mod TellLemmas
 pub mod TableLemmas
+pub mod OpenLemmas

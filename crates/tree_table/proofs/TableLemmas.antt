@@ -98,11 +98,11 @@ mutual
 -- ---- where an executable leads
 
 -- f stands at q, has that number, and leads to itself
-record IsFound (arena : List BareNode) (rows : List Row) (ns : List ℕ) (q : ℕ) (f : Exec) : Type 0 where
-  led : IsLed arena rows q f
-  inside : has ns q ≡ true
-  twice : leads f ≡ f
-  own : own_number f ≡ Some q
+pub record IsFound (arena : List BareNode) (rows : List Row) (ns : List ℕ) (q : ℕ) (f : Exec) : Type 0 where
+  pub led : IsLed arena rows q f
+  pub inside : has ns q ≡ true
+  pub twice : leads f ≡ f
+  pub own : own_number f ≡ Some q
 
 same_some : (p q : ℕ) → Some p ≡ Some q → p ≡ q
 same_some p q e = cc
@@ -153,7 +153,7 @@ plan_led arena rows None es s = s
 plan_led arena rows (Some n) es s = s.1
 
 mutual
-  found_of : (arena : List BareNode) (rows : List Row) (e : Exec) (q : ℕ) → Led arena rows e → into_of e ≡ Some q → IsFound arena rows (nodes e) q (leads e)
+  pub found_of : (arena : List BareNode) (rows : List Row) (e : Exec) (q : ℕ) → Led arena rows e → into_of e ≡ Some q → IsFound arena rows (nodes e) q (leads e)
   found_of arena rows (Work n) q s h = found_itself arena rows n q [] (Work n) s refl refl (same_some n q h)
   found_of arena rows (Leaf n k) q s h = found_itself arena rows n q [] (Leaf n k) s refl refl (same_some n q h)
   found_of arena rows (Plan n es) q s h =
@@ -165,7 +165,7 @@ mutual
   found_of arena rows (If n a b) q s h = found_itself arena rows n q (nodes a ++ nodes b) (If n a b) s.0 refl refl (same_some n q h)
   found_of arena rows (While n a) q s h = found_itself arena rows n q (nodes a) (While n a) s.0 refl refl (same_some n q h)
 
-  found_first : (arena : List BareNode) (rows : List Row) (es : Execs) (itself : Exec) (q : ℕ) → LedAll arena rows es → first_into es ≡ Some q → IsFound arena rows (nodes_all es) q (leads_first es itself)
+  pub found_first : (arena : List BareNode) (rows : List Row) (es : Execs) (itself : Exec) (q : ℕ) → LedAll arena rows es → first_into es ≡ Some q → IsFound arena rows (nodes_all es) q (leads_first es itself)
   found_first arena rows None_left itself q s h = absurd (none_some q h)
   found_first arena rows (Then e es) itself q s h =
       found_step arena rows e es itself q (has_none (next e [])) refl (λ i. found_of arena rows e q s.0 i) (λ i. found_first arena rows es itself q s.1 i) h

@@ -202,7 +202,7 @@ kind_told arena rows levels kind.Wait p places shared c a n h o s = o
 kind_told arena rows levels kind.Note p places shared c a n h o s = o
 
 -- the row of its own, and those of its elements
-own_led : (arena : List BareNode) (rows : List Row) (levels : ℕ) (k : Kind) (p : ℕ) (places : List ℕ) → Led arena rows (of_kind k (Some p) (placed_all arena levels places)) → IsLed arena rows p (of_kind k (Some p) (placed_all arena levels places))
+pub own_led : (arena : List BareNode) (rows : List Row) (levels : ℕ) (k : Kind) (p : ℕ) (places : List ℕ) → Led arena rows (of_kind k (Some p) (placed_all arena levels places)) → IsLed arena rows p (of_kind k (Some p) (placed_all arena levels places))
 own_led arena rows levels kind.Plan p places s = s.0
 own_led arena rows levels kind.Par p places s = s.0
 own_led arena rows levels kind.NonSeq p places s = s.0
