@@ -7,3 +7,4 @@ pub mod LeadLemmas
 pub mod TellLemmas
 pub mod TableLemmas
 pub mod OpenLemmas
+pub mod OnwardLemmas

@@ -249,8 +249,7 @@ has_led arena rows levels (p ∷ places) q h s = go (p == q) refl (λ i. has_led
     go : (b : Bool) → (p == q) ≡ b → (has places q ≡ true → Led arena rows (placed_down arena levels q) × ((r : ℕ) → has (nodes (placed_down arena levels q)) r ≡ true → has (nodes_all (to_execs (placed_all arena levels places))) r ≡ true))
         → Led arena rows (placed_down arena levels q) × ((r : ℕ) → has (nodes (placed_down arena levels q)) r ≡ true → has (nodes (placed_down arena levels p) ++ nodes_all (to_execs (placed_all arena levels places))) r ≡ true)
     go true e rec =
-        let f = same_number p q e in
-        (
+        let f = same_number p q e in (
           subst (λ (m : ℕ). Led arena rows (placed_down arena levels m)) f s.0,
           λ r j. has_left (nodes (placed_down arena levels p)) (nodes_all (to_execs (placed_all arena levels places))) r (subst (λ (m : ℕ). has (nodes (placed_down arena levels m)) r ≡ true) (sym f) j),
         )
@@ -285,8 +284,7 @@ below_led arena rows (suc levels) p q node a at i s =
     let is = down_node arena (suc levels) p node (omega arith) at in
     let places = node.elements in
     let l = kind_elements arena rows (suc levels - 1) node.kind node.number p places a (place_is node.kind node.number p) (subst (λ (e : Exec). Led arena rows e) is s) in
-    let t = has_led arena rows (suc levels - 1) places q i l in
-    (
+    let t = has_led arena rows (suc levels - 1) places q i l in (
       t.0,
       λ r j. subst (λ (e : Exec). has (nodes e) r ≡ true) (sym is) (elements_inside arena (suc levels - 1) node.kind node.number p places a (is_plan node.kind) r (t.1 r j)),
     )

@@ -82,8 +82,8 @@ mutual
       let ns = nodes a ++ nodes b in
       choose (IsPart arena rows (n ∷ ns) p) n p ns (If n a b) (if has (nodes a) p then within a p else within b p) (itself_part arena rows n p (If n a b) s s.0)
       (λ i. either (IsPart arena rows (n ∷ ns) p) (nodes a) (nodes b) p (within a p) (within b p)
-          (λ j. wider arena rows (nodes a) (n ∷ ns) p (within a p) (λ q k. has_rest n ns q (has_left (nodes a) (nodes b) q k)) (part_of arena rows a p s.1 j))
-          (λ j. wider arena rows (nodes b) (n ∷ ns) p (within b p) (λ q k. has_rest n ns q (has_right (nodes a) (nodes b) q k)) (part_of arena rows b p s.2 j)) i) h
+      (λ j. wider arena rows (nodes a) (n ∷ ns) p (within a p) (λ q k. has_rest n ns q (has_left (nodes a) (nodes b) q k)) (part_of arena rows a p s.1 j))
+      (λ j. wider arena rows (nodes b) (n ∷ ns) p (within b p) (λ q k. has_rest n ns q (has_right (nodes a) (nodes b) q k)) (part_of arena rows b p s.2 j)) i) h
   part_of arena rows (While n a) p s h =
       choose (IsPart arena rows (n ∷ nodes a) p) n p (nodes a) (While n a) (within a p) (itself_part arena rows n p (While n a) s s.0)
       (λ i. wider arena rows (nodes a) (n ∷ nodes a) p (within a p) (has_rest n (nodes a)) (part_of arena rows a p s.1 i)) h
@@ -277,7 +277,7 @@ mutual
   tells_in law arena rows (NonSeq n es) c k within l s t m h =
       choose (Tells arena rows (after_at rows m)) n m (nodes_all es) k (onward_among es (onwards.PicksOn n (count es) k) m) (own_tells arena rows n m c k s.0 t)
       (λ i. tells_among law arena rows es (row.PicksOn n) (onwards.PicksOn n (count es) k) (λ p j. within p (has_rest n (nodes_all es) p j)) l.1 s.1
-          (refl, count_there arena _ n n es l.0.there, subst (λ (g : Continuation). Tells arena rows g k) (sym s.0) t) m i) h
+      (refl, count_there arena _ n n es l.0.there, subst (λ (g : Continuation). Tells arena rows g k) (sym s.0) t) m i) h
   tells_in law arena rows (Sel n es) c k within l s t m h =
       choose (Tells arena rows (after_at rows m)) n m (nodes_all es) k (onward_among es k m) (own_tells arena rows n m c k s.0 t)
       (λ i. tells_among law arena rows es c k (λ p j. within p (has_rest n (nodes_all es) p j)) l.1 s.1 t m i) h
@@ -285,8 +285,8 @@ mutual
       let ns = nodes a ++ nodes b in
       choose (Tells arena rows (after_at rows m)) n m ns k (if has (nodes a) m then onward a k m else onward b k m) (own_tells arena rows n m c k s.0 t)
       (λ i. either (Tells arena rows (after_at rows m)) (nodes a) (nodes b) m (onward a k m) (onward b k m)
-          (λ j. tells_in law arena rows a c k (λ p g. within p (has_rest n ns p (has_left (nodes a) (nodes b) p g))) l.1 s.1 t m j)
-          (λ j. tells_in law arena rows b c k (λ p g. within p (has_rest n ns p (has_right (nodes a) (nodes b) p g))) l.2 s.2 t m j) i) h
+      (λ j. tells_in law arena rows a c k (λ p g. within p (has_rest n ns p (has_left (nodes a) (nodes b) p g))) l.1 s.1 t m j)
+      (λ j. tells_in law arena rows b c k (λ p g. within p (has_rest n ns p (has_right (nodes a) (nodes b) p g))) l.2 s.2 t m j) i) h
   tells_in law arena rows (While n a) c k within l s t m h =
       choose (Tells arena rows (after_at rows m)) n m (nodes a) k (onward a (onwards.TestsAgain n) m) (own_tells arena rows n m c k s.0 t)
       (λ i. tells_in law arena rows a (row.TestsAgain n) (onwards.TestsAgain n) (λ p j. within p (has_rest n (nodes a) p j)) l.1 s.1 refl m i) h

@@ -261,9 +261,9 @@ inner_told arena old new levels k p places c inside into shared l a n d led befo
     let own = own_led arena old levels k p places led in
     record {
       told = kind_told arena new levels k p places shared c a n
-      (λ e.
+          (λ e.
           sh ∙ (ap (λ (o : Option ℕ). is_number o p) (i ∙ (own.into ∙ ap (λ (j : Kind). into_of (of_kind j (Some p) (placed_all arena levels places))) e)) ∙ shared_by p es once.0))
-      (own_told old new p c (nodes_all es) l once.0 s.same) (subst (λ (g : Continuation). ToldAll new es g) ins s.told);
+          (own_told old new p c (nodes_all es) l once.0 s.same) (subst (λ (g : Continuation). ToldAll new es g) ins s.told);
       into = i ∙ own.into;
       same = subst (AreSameBut old new) (sym (nodes_of arena levels k p places a n)) (own_same old new p c (nodes_all es) l before b s.same);
     }

@@ -1,5 +1,5 @@
 -- Where a run goes on when a node is over, with the executables that are opened there: a fact of the tree.
-use Rattle.std.specs.Prelude.{ℕ, Bool, true, false, ◌==◌, if◌then◌else◌, [], Option, Some, None}
+use Rattle.std.specs.Prelude.{ℕ, Bool, true, false, ◌==◌, if◌then◌else◌, List, [], ◌∷◌, ◌++◌, Option, Some, None}
 use Rattle.exec_tree.specs.Exec.{Exec, Work, Leaf, Plan, Par, NonSeq, Sel, If, While, Execs, None_left, Then, nodes, has, count}
 use Rattle.trace_law.specs.Next.{next}
 use Rattle.trace_law.specs.Frames.{is_shared}
@@ -54,3 +54,19 @@ abbrev mutual
   pub onward_among : Execs → Onward → ℕ → Onward
   onward_among None_left k m = Done
   onward_among (Then e es) k m = if has (nodes e) m then onward e k m else onward_among es k m
+
+-- the nodes that have entries: all but workplans and parallels
+abbrev mutual
+  pub acting : Exec → List ℕ
+  acting (Work n) = n ∷ []
+  acting (Leaf n k) = n ∷ []
+  acting (Plan n es) = acting_all es
+  acting (Par n es) = acting_all es
+  acting (NonSeq n es) = n ∷ acting_all es
+  acting (Sel n es) = n ∷ acting_all es
+  acting (If n a b) = n ∷ (acting a ++ acting b)
+  acting (While n a) = n ∷ acting a
+
+  pub acting_all : Execs → List ℕ
+  acting_all None_left = []
+  acting_all (Then e es) = acting e ++ acting_all es

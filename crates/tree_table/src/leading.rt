@@ -45,11 +45,7 @@ fn into_by(kind: Kind, place: u32, count: usize, leads: Leads) -> Option<u32>
         } else {
             Some(place)
         },
-        Kind::NonSeq => if count == 0 {
-            None
-        } else {
-            Some(place)
-        },
+        Kind::NonSeq => if count == 0 { None } else { Some(place) },
         _ => Some(place),
     }
 }
@@ -65,12 +61,7 @@ fn put_row(rows: &mut [Row], place: Option<u32>, row: Row)
 
 /// Makes the rows of the executable at a place, at most so many levels down: where opening it leads.
 #[cycle(leading)]
-pub(crate) fn lead_down(
-    arena: &[Node],
-    rows: &mut [Row],
-    levels: u32,
-    place: u32,
-) -> Option<u32>
+pub(crate) fn lead_down(arena: &[Node], rows: &mut [Row], levels: u32, place: u32) -> Option<u32>
     requires shaped { AreShaped (map bare_of arena.now) }
     requires room { length rows.old ≡ length arena.now }
     requires distinct { AreDistinct (nodes (placed_down (map bare_of arena.now) levels place)) }

@@ -12,6 +12,7 @@
 //! | nodes | the nodes of a tree by place | |
 #![tactic(auto)]
 
+pub mod laws;
 mod leading;
 mod nodes;
 mod opening;

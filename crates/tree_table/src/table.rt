@@ -92,7 +92,12 @@ impl Table {
     {
         leads_opens();
         let rows = self.rows.as_slice();
-        lead_at(arena, rows, levels_at(rows, place).saturating_sub(1), element)
+        lead_at(
+            arena,
+            rows,
+            levels_at(rows, place).saturating_sub(1),
+            element,
+        )
     }
 
     /// Opens the executable at a place to which opening leads: puts into the set where a run of it can go on before any entry. A parallel

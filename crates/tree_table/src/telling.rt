@@ -229,13 +229,7 @@ fn tell_order(
 
 /// Tells the rows of elements that all go on at `after`.
 #[cycle(telling)]
-fn tell_all(
-    arena: &[Node],
-    rows: &mut [Row],
-    levels: u32,
-    elements: &[u32],
-    after: Continuation,
-)
+fn tell_all(arena: &[Node], rows: &mut [Row], levels: u32, elements: &[u32], after: Continuation)
     requires shaped { AreShaped (map bare_of arena.now) }
     requires closed { IsClosed (map bare_of arena.now) 0 (length arena.now) }
     requires room { length rows.old ≡ length arena.now }

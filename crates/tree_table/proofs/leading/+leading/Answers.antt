@@ -31,9 +31,9 @@ lead_down-lead_kind-requires t c =
     let at = seen_some c.args.arena.now c.args.place _ node c.node_at.ensures (ap option_copied c.in-Some.is) in
     let within = bare_within c.args.arena.now c.args.place (bare_of node) at in
     let there =
-        subst (λ (k : Kind). placed_down arena c.args.levels c.args.place ≡ of_kind k (place_for k node.number c.args.place) (placed_all arena (c.args.levels - 1) c.as_slice.result.now)) (sym c.kind.ensures)
-        (subst (λ (qs : List ℕ). placed_down arena c.args.levels c.args.place ≡ of_kind (kind_of_node node.kind) (place_for (kind_of_node node.kind) node.number c.args.place) (placed_all arena (c.args.levels - 1) qs)) (sym c.as_slice.ensures)
-        (down_node arena c.args.levels c.args.place (bare_of node) some at)) in (
+    subst (λ (k : Kind). placed_down arena c.args.levels c.args.place ≡ of_kind k (place_for k node.number c.args.place) (placed_all arena (c.args.levels - 1) c.as_slice.result.now)) (sym c.kind.ensures)
+    (subst (λ (qs : List ℕ). placed_down arena c.args.levels c.args.place ≡ of_kind (kind_of_node node.kind) (place_for (kind_of_node node.kind) node.number c.args.place) (placed_all arena (c.args.levels - 1) qs)) (sym c.as_slice.ensures)
+    (down_node arena c.args.levels c.args.place (bare_of node) some at)) in (
       omega (arith, some, c.decreases),
       (
         c.requires.shaped,
