@@ -1,5 +1,5 @@
 -- Where opening leads: what the pass from the leaves up makes.
-use Rattle.std.specs.Prelude.{◌≡◌, ◌<◌, ◌≤◌, ◌-◌, ◌+◌, ◌==◌, nat_le, ℕ, zero, suc, Bool, true, false, if◌then◌else◌, List, [], ◌∷◌, ◌++◌, length, drop, slice_get, slice_set, Option, Some, None}
+use Rattle.std.specs.Prelude.{◌≡◌, ◌<◌, ◌≤◌, ◌+◌, ◌==◌, nat_le, ℕ, zero, suc, Bool, true, false, if◌then◌else◌, List, [], ◌∷◌, ◌++◌, length, drop, slice_get, slice_set, Option, Some, None}
 use Rattle.std.specs.Option.{option_map_or}
 use Rattle.std.proofs.Common.{refl, sym, ◌∙◌, ap, subst, arith, get_or, ◌⊎◌, inl, inr}
 use Rattle.std.proofs.lemmas.Bool.Decides.{nat_tests}
@@ -13,8 +13,8 @@ use Rattle.trace_law.specs.Frames.{is_shared, one_where, going}
 use Rattle.trace_law.specs.Leading.{has_none, leads, leads_first}
 use Rattle.tree_table.specs.Placed.{place_for, placed_down, placed_all}
 use Rattle.tree_table.specs.Within.{own_number, is_workplan}
-use Rattle.tree_table.specs.Rows.{into_at, levels_at, executable_at, AreLinkedBack}
-use Rattle.tree_table.specs.Filled.{first_place, one_for, into_of, first_into, into_by, with_row, AreKeptBut, IsLed, Led, LedAll, IsMade, AreMade}
+use Rattle.tree_table.specs.Rows.{into_at, levels_at}
+use Rattle.tree_table.specs.Filled.{first_place, one_for, into_of, first_into, into_by, with_row, IsLed, Led, LedAll, IsMade, AreMade}
 use Rattle.tree_table.specs.declared.row.Continuation.TheVariants.{Done}
 use Rattle.tree_table.specs.declared.row.Row.{Row}
 use Rattle.tree_table.proofs.ListLemmas.{clash, has_left, has_right, has_self, has_rest, not_own, not_rest, not_left, not_right, once_back, get_set, get_other, length_set, drop_at}

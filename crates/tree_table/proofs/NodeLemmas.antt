@@ -1,12 +1,12 @@
 -- The nodes of an executable of a kind, and of its elements.
-use Rattle.std.specs.Prelude.{◌≡◌, ◌<◌, ◌≤◌, ◌-◌, ◌+◌, ℕ, zero, suc, true, List, [], ◌∷◌, ◌++◌, length, drop, slice_get, Option, Some, None}
-use Rattle.std.proofs.Common.{refl, sym, ◌∙◌, ap, subst, arith, get_or}
-use Rattle.exec_tree.specs.Exec.{Exec, Execs, nodes, nodes_all, has, AreDistinct}
+use Rattle.std.specs.Prelude.{◌≡◌, ◌<◌, ◌+◌, ℕ, zero, suc, List, [], ◌∷◌, ◌++◌, length, drop, Some}
+use Rattle.std.proofs.Common.{refl, sym, ap, subst, get_or}
+use Rattle.exec_tree.specs.Exec.{nodes, nodes_all, AreDistinct}
 use Rattle.exec_tree.specs.Arena.{to_execs, of_kind, HasArity}
 use Rattle.exec_tree.specs.declared.kind.Kind.{Kind}
 use Rattle.exec_tree.specs.declared.kind.Kind.TheVariants as kind
 use Rattle.exec_tree.specs.declared.node.BareNode.{BareNode}
-use Rattle.tree_table.specs.Placed.{place_for, placed_down, placed_all}
+use Rattle.tree_table.specs.Placed.{placed_down, placed_all}
 use Rattle.tree_table.proofs.ListLemmas.{nil_right, once_left, once_right, drop_at}
 
 -- of all kinds but workplans

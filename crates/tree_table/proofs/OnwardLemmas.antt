@@ -1,5 +1,5 @@
 -- Where a run goes on, told by what is opened and by what comes in.
-use Rattle.std.specs.Prelude.{◌≡◌, ◌==◌, ◌||◌, ℕ, Bool, true, false, if◌then◌else◌, List, [], ◌∷◌, ◌++◌, Option, Some, None}
+use Rattle.std.specs.Prelude.{◌≡◌, ◌==◌, ◌||◌, ℕ, Bool, true, false, if◌then◌else◌, List, [], ◌∷◌, ◌++◌, Some, None}
 use Rattle.std.proofs.Common.{refl, sym, ◌∙◌, ap, subst}
 use Rattle.exec_tree.specs.Exec.{Exec, Work, Leaf, Plan, Par, NonSeq, Sel, If, While, Execs, None_left, Then, nodes, nodes_all, has, count, AreDistinct}
 use Rattle.trace_law.specs.Next.{first_of_two, next, next_in_order}
@@ -9,7 +9,7 @@ use Rattle.trace_law.specs.After.{After, after, after_in_order, after_among}
 use Rattle.trace_law.specs.After as after
 use Rattle.tree_table.specs.Onward.{Onward, coming_in, opens_first, joins_where, onward, onward_in_order, onward_among, acting, acting_all}
 use Rattle.tree_table.specs.Onward as onwards
-use Rattle.tree_table.proofs.ListLemmas.{clash, same_number, has_left, has_right, has_rest, has_self, rest_has, right_has, once_left, once_right, once_across, not_left, not_right}
+use Rattle.tree_table.proofs.ListLemmas.{clash, same_number, has_left, has_right, has_rest, rest_has, right_has, once_left, once_right, once_across}
 use Rattle.tree_table.proofs.TableLemmas.{LeadingLaw}
 
 -- ---- what has entries is among the nodes

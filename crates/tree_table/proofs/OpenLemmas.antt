@@ -2,25 +2,25 @@
 use Rattle.std.specs.Prelude.{◌≡◌, ◌<◌, ◌≤◌, ◌-◌, ◌+◌, ◌==◌, ◌||◌, ℕ, zero, suc, Bool, true, false, if◌then◌else◌, List, [], ◌∷◌, ◌++◌, map, length, drop, slice_get, Option, Some, None}
 use Rattle.std.proofs.Common.{refl, sym, ◌∙◌, ap, subst, arith, get_or, ◌⊎◌, inl, inr}
 use Rattle.std.proofs.lemmas.Bool.Decides.{nat_tests}
-use Rattle.exec_tree.specs.Exec.{Exec, Work, Leaf, Plan, Par, NonSeq, Sel, If, While, Execs, None_left, Then, nodes, nodes_all, has, count}
+use Rattle.exec_tree.specs.Exec.{Exec, Plan, Par, None_left, nodes, nodes_all, has, count}
 use Rattle.exec_tree.specs.Arena.{to_execs, of_kind, first_of, second_of, IsClosed, AreShaped, HasArity}
 use Rattle.exec_tree.specs.declared.kind.Kind.{Kind}
 use Rattle.exec_tree.specs.declared.kind.Kind.TheVariants as kind
 use Rattle.exec_tree.specs.declared.node.BareNode.{BareNode}
 use Rattle.trace_law.specs.Next.{first_of_two, next, next_each}
-use Rattle.trace_law.specs.Leading.{has_none, leads}
+use Rattle.trace_law.specs.Leading.{leads}
 use Rattle.tree_table.specs.Placed.{place_for, placed_node, placed_down, placed_all, placed}
-use Rattle.tree_table.specs.Within.{within, is_workplan}
+use Rattle.tree_table.specs.Within.{is_workplan}
 use Rattle.tree_table.specs.Rows.{into_at, levels_at, executable_at}
 use Rattle.tree_table.specs.Filled.{into_of, first_into, Led, LedAll}
-use Rattle.tree_table.specs.Table.{IsEntrance, IsElement, LeadsTo, IsTable}
+use Rattle.tree_table.specs.Table.{IsEntrance, LeadsTo, IsTable}
 use Rattle.tree_table.specs.declared.row.Row.{Row}
-use Rattle.tree_table.proofs.ListLemmas.{clash, same_number, has_left, has_right, has_append, has_self, has_rest, rest_has, right_has, drop_at}
+use Rattle.tree_table.proofs.ListLemmas.{same_number, has_left, has_right, has_append, has_self, has_rest, rest_has, right_has, drop_at}
 use Rattle.tree_table.proofs.PlacedLemmas.{down_node}
 use Rattle.tree_table.proofs.NodeLemmas.{nodes_of}
 use Rattle.tree_table.proofs.LeadLemmas.{lead_of, first_in_order, place_is, is_plan, no_plan}
-use Rattle.tree_table.proofs.TellLemmas.{own_led, elements_led, led_at}
-use Rattle.tree_table.proofs.TableLemmas.{LeadingLaw, IsPart, part_of, found_of, leads_to}
+use Rattle.tree_table.proofs.TellLemmas.{own_led, elements_led}
+use Rattle.tree_table.proofs.TableLemmas.{IsPart, part_of, found_of}
 
 -- ---- the place to which opening leads
 

@@ -1,15 +1,15 @@
 -- Rows that are written.
-use Rattle.std.specs.Prelude.{◌≡◌, ◌<◌, ◌==◌, ℕ, Bool, true, false, List, [], ◌∷◌, length, slice_get, slice_set, Option, Some, None}
+use Rattle.std.specs.Prelude.{◌≡◌, ◌<◌, ◌==◌, ℕ, Bool, true, false, List, ◌∷◌, length, slice_get, slice_set, Option, Some, None}
 use Rattle.std.specs.Option.{option_map_or}
 use Rattle.std.proofs.Common.{refl, sym, ◌∙◌, ap, subst, arith}
 use Rattle.std.proofs.lemmas.Bool.Decides.{nat_tests}
 use Rattle.exec_tree.specs.Exec.{has}
 use Rattle.tree_table.specs.Rows.{into_at, after_at, levels_at, link_of, AreLinkedBack}
-use Rattle.tree_table.specs.Filled.{with_after, AreKeptBut, AreSameBut}
+use Rattle.tree_table.specs.Filled.{with_after, AreSameBut}
 use Rattle.tree_table.specs.declared.row.Continuation.{Continuation}
 use Rattle.tree_table.specs.declared.row.Continuation.TheVariants.{Done}
 use Rattle.tree_table.specs.declared.row.Row.{Row}
-use Rattle.tree_table.proofs.ListLemmas.{same_number, not_own, not_rest, get_set, get_other, length_set, get_some}
+use Rattle.tree_table.proofs.ListLemmas.{same_number, not_own, get_set, get_other, length_set, get_some}
 
 pub into_same : (old new : List Row) (q : ℕ) → slice_get new q ≡ slice_get old q → into_at new q ≡ into_at old q
 into_same old new q h = ap (λ (o : Option Row). option_map_or (λ r. r.into) o None) h

@@ -7,23 +7,22 @@ use Rattle.exec_tree.specs.Arena.{to_execs, of_kind}
 use Rattle.exec_tree.specs.declared.kind.Kind.{Kind}
 use Rattle.exec_tree.specs.declared.kind.Kind.TheVariants as kind
 use Rattle.exec_tree.specs.declared.node.BareNode.{BareNode}
-use Rattle.trace_law.specs.Next.{first_of_two, next, next_each}
+use Rattle.trace_law.specs.Next.{next, next_each}
 use Rattle.trace_law.specs.Frames.{is_shared}
 use Rattle.trace_law.specs.Leading.{has_none, leads, leads_first}
 use Rattle.place_set.specs.declared.set.TheConstants.{MAX_PLACES}
-use Rattle.tree_table.specs.Placed.{place_for, placed_node, placed_down, placed_all, placed}
+use Rattle.tree_table.specs.Placed.{place_for, placed_node, placed_down, placed}
 use Rattle.tree_table.specs.Within.{own_number, within, within_all}
 use Rattle.tree_table.specs.Onward.{Onward, opens_first, joins_where, onward, onward_in_order, onward_among}
 use Rattle.tree_table.specs.Onward as onwards
-use Rattle.tree_table.specs.Rows.{into_at, after_at, executable_at, AreLinkedBack}
+use Rattle.tree_table.specs.Rows.{into_at, after_at, AreLinkedBack}
 use Rattle.tree_table.specs.Table.{IsEntrance, LeadsTo, count_at, Tells, IsTable}
 use Rattle.tree_table.specs.Filled.{first_place, into_of, first_into, IsLed, Led, LedAll, opens_or, joins_or, Told, ToldInOrder, ToldAll}
 use Rattle.tree_table.specs.declared.row.Continuation.{Continuation}
 use Rattle.tree_table.specs.declared.row.Continuation.TheVariants as row
 use Rattle.tree_table.specs.declared.row.Row.{Row}
-use Rattle.tree_table.proofs.ListLemmas.{clash, same_number, has_left, has_right, has_self, has_rest, rest_has, right_has}
+use Rattle.tree_table.proofs.ListLemmas.{same_number, has_left, has_right, has_self, has_rest, rest_has, right_has}
 use Rattle.tree_table.proofs.LeadLemmas.{is_none, is_some, into_none, into_some, lead_of, first_in_order, first_each}
-use Rattle.tree_table.proofs.PlacedLemmas.{down_node, count_is}
 
 -- ---- a node is the executable's own or of its elements
 

@@ -1,5 +1,5 @@
 -- Where the run goes on: what the pass from the root down tells.
-use Rattle.std.specs.Prelude.{◌≡◌, ◌<◌, ◌-◌, ◌+◌, ◌==◌, nat_le, ℕ, zero, suc, Bool, true, false, if◌then◌else◌, List, [], ◌∷◌, ◌++◌, length, drop, slice_get, Option, Some, None}
+use Rattle.std.specs.Prelude.{◌≡◌, ◌<◌, ◌+◌, ◌==◌, nat_le, ℕ, zero, suc, Bool, true, false, List, [], ◌∷◌, ◌++◌, length, drop, Option, Some, None}
 use Rattle.std.proofs.Common.{refl, sym, ◌∙◌, ap, subst, arith, get_or}
 use Rattle.std.proofs.lemmas.Bool.Decides.{nat_tests}
 use Rattle.exec_tree.specs.Exec.{Exec, Work, Leaf, Plan, Par, NonSeq, Sel, If, While, Execs, None_left, Then, nodes, nodes_all, has, AreDistinct}
@@ -7,18 +7,18 @@ use Rattle.exec_tree.specs.Arena.{to_execs, of_kind, HasArity}
 use Rattle.exec_tree.specs.declared.kind.Kind.{Kind}
 use Rattle.exec_tree.specs.declared.kind.Kind.TheVariants as kind
 use Rattle.exec_tree.specs.declared.node.BareNode.{BareNode}
-use Rattle.trace_law.specs.Next.{next, next_each}
-use Rattle.trace_law.specs.Frames.{is_shared, going}
-use Rattle.trace_law.specs.Leading.{has_none, leads, leads_first}
-use Rattle.tree_table.specs.Placed.{place_for, placed_down, placed_all}
-use Rattle.tree_table.specs.Within.{own_number, is_number}
-use Rattle.tree_table.specs.Rows.{into_at, after_at, levels_at, link_of, AreLinkedBack}
+use Rattle.trace_law.specs.Next.{next_each}
+use Rattle.trace_law.specs.Frames.{is_shared}
+use Rattle.trace_law.specs.Leading.{has_none}
+use Rattle.tree_table.specs.Placed.{placed_down, placed_all}
+use Rattle.tree_table.specs.Within.{is_number}
+use Rattle.tree_table.specs.Rows.{into_at, after_at, link_of, AreLinkedBack}
 use Rattle.tree_table.specs.Filled.{first_place, into_of, first_into, with_after, IsLed, Led, LedAll, opens_or, joins_or, inner, Told, ToldInOrder, ToldAll, AreSameBut, IsTold, AreTold, AreToldInOrder}
 use Rattle.tree_table.specs.declared.row.Continuation.{Continuation}
-use Rattle.tree_table.specs.declared.row.Continuation.TheVariants.{Opens, Joins, PicksOn, TestsAgain}
+use Rattle.tree_table.specs.declared.row.Continuation.TheVariants.{PicksOn, TestsAgain}
 use Rattle.tree_table.specs.declared.row.Row.{Row}
-use Rattle.tree_table.proofs.ListLemmas.{clash, same_number, has_left, has_right, has_self, has_rest, not_left, not_right, not_rest, once_left, once_right, once_back, drop_at}
-use Rattle.tree_table.proofs.RowLemmas.{put_after, put_into, put_same, same_none, same_more, same_both}
+use Rattle.tree_table.proofs.ListLemmas.{clash, same_number, has_left, has_right, has_self, has_rest, not_left, not_right, not_rest, once_back, drop_at}
+use Rattle.tree_table.proofs.RowLemmas.{put_after, put_same, same_none, same_more, same_both}
 use Rattle.tree_table.proofs.NodeLemmas.{nodes_of, once_behind}
 use Rattle.tree_table.proofs.LeadLemmas.{led_kept, led_all_kept, lead_each, is_some, is_none, going_none}
 

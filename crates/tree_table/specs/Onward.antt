@@ -1,5 +1,5 @@
 -- Where a run goes on when a node is over, with the executables that are opened there: a fact of the tree.
-use Rattle.std.specs.Prelude.{ℕ, Bool, true, false, ◌==◌, if◌then◌else◌, List, [], ◌∷◌, ◌++◌, Option, Some, None}
+use Rattle.std.specs.Prelude.{ℕ, Bool, true, false, ◌==◌, if◌then◌else◌, List, [], ◌∷◌, ◌++◌}
 use Rattle.exec_tree.specs.Exec.{Exec, Work, Leaf, Plan, Par, NonSeq, Sel, If, While, Execs, None_left, Then, nodes, has, count}
 use Rattle.trace_law.specs.Next.{next}
 use Rattle.trace_law.specs.Frames.{is_shared}

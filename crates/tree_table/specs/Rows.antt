@@ -5,7 +5,7 @@ use Rattle.exec_tree.specs.Exec.{Exec}
 use Rattle.exec_tree.specs.declared.node.BareNode.{BareNode}
 use Rattle.tree_table.specs.Placed.{placed_down}
 use Rattle.tree_table.specs.declared.row.Continuation.{Continuation}
-use Rattle.tree_table.specs.declared.row.Continuation.TheVariants.{Done, Opens, Joins, PicksOn, TestsAgain}
+use Rattle.tree_table.specs.declared.row.Continuation.TheVariants.{Done, Joins, PicksOn}
 use Rattle.tree_table.specs.declared.row.Row.{Row}
 
 abbrev pub into_at : List Row → ℕ → Option ℕ

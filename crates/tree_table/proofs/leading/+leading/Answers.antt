@@ -1,4 +1,4 @@
-use Rattle.std.proofs.Common.{◌≡◌, ◌∙◌, ◌<◌, ◌-◌, ◌+◌, ap, sym, subst, arith, map, drop, get_or, List, ℕ, length, Option, Some, None, length-drop}
+use Rattle.std.proofs.Common.{◌≡◌, ◌∙◌, ◌<◌, ◌-◌, ◌+◌, ap, sym, subst, arith, map, drop, List, ℕ, length, Option, length-drop}
 use Rattle.std.specs.Prelude.{option_copied}
 use Rattle.exec_tree.specs.Exec.{Exec, nodes, AreDistinct}
 use Rattle.exec_tree.specs.Arena.{to_execs, of_kind, HasArity}
@@ -9,8 +9,7 @@ use Rattle.tree_table.specs.Filled.{with_row, IsMade, AreMade}
 use Rattle.tree_table.specs.declared.row.Continuation.TheVariants.{Done}
 use Rattle.tree_table.specs.declared.row.Row.{Row}
 use Rattle.tree_table.proofs.PlacedLemmas.{down_zero, down_none, down_node, seen_none, seen_some, count_is, bare_within}
-use Rattle.tree_table.proofs.ListLemmas.{drop_all}
-use Rattle.tree_table.proofs.LeadLemmas.{made_nothing, made_none, made_step, kind_made, going_few}
+use Rattle.tree_table.proofs.LeadLemmas.{made_nothing, made_step, kind_made, going_few}
 use Rattle.tree_table.proofs.NodeLemmas.{once_at}
 use Rattle.tree_table.proofs.leading.+leading.Goals as goal
 

@@ -1,7 +1,7 @@
-use Rattle.std.proofs.Common.{◌≡◌, ◌∙◌, ◌<◌, ◌-◌, ap, sym, subst, arith, map, List, ℕ, Option, Some, None, length}
+use Rattle.std.proofs.Common.{◌≡◌, ◌∙◌, ◌<◌, ◌-◌, ap, sym, subst, arith, map, List, ℕ, Some, None}
 use Rattle.std.specs.Prelude.{option_copied}
 use Rattle.exec_tree.specs.Exec.{Exec}
-use Rattle.exec_tree.specs.Arena.{to_execs, of_kind}
+use Rattle.exec_tree.specs.Arena.{to_execs}
 use Rattle.exec_tree.specs.Said.{bare_of, kind_of_node}
 use Rattle.exec_tree.specs.declared.kind.Kind.{Kind}
 use Rattle.tree_table.specs.Placed.{place_for, placed_all}

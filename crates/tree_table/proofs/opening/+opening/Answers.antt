@@ -1,23 +1,21 @@
-use Rattle.std.proofs.Common.{◌≡◌, ◌∙◌, ◌<◌, ◌-◌, ◌+◌, ◌||◌, ap, sym, subst, arith, map, drop, get_or, List, [], ℕ, true, length, Option, Some, None}
+use Rattle.std.proofs.Common.{◌≡◌, ◌∙◌, ◌<◌, ◌-◌, ◌+◌, ◌||◌, ap, sym, subst, arith, map, drop, get_or, List, [], ℕ, true, length, Option, Some}
 use Rattle.std.specs.Prelude.{option_copied}
 use Rattle.std.proofs.lemmas.Option.{slice_get_within}
 use Rattle.exec_tree.specs.Exec.{Exec, nodes, nodes_all, has}
 use Rattle.exec_tree.specs.Arena.{to_execs}
 use Rattle.exec_tree.specs.Said.{bare_of, kind_of_node}
-use Rattle.exec_tree.specs.declared.kind.Kind.{Kind}
 use Rattle.exec_tree.specs.declared.kind.Kind.TheVariants as kinds
-use Rattle.exec_tree.specs.declared.node.BareNode.{BareNode}
 use Rattle.place_set.specs.Words.{holds}
 use Rattle.trace_law.specs.Next.{next, next_each}
 use Rattle.tree_table.specs.Filled.{into_of, LedAll}
 use Rattle.tree_table.specs.Placed.{placed, placed_down, placed_all}
 use Rattle.tree_table.specs.Rows.{levels_at}
 use Rattle.tree_table.specs.Table.{LeadsTo}
-use Rattle.tree_table.proofs.PlacedLemmas.{seen_none, seen_some, bare_within}
+use Rattle.tree_table.proofs.PlacedLemmas.{seen_some, bare_within}
 use Rattle.tree_table.proofs.ListLemmas.{has_at}
 use Rattle.tree_table.proofs.TellLemmas.{led_at}
 use Rattle.tree_table.proofs.TableLemmas.{leads_to}
-use Rattle.tree_table.proofs.OpenLemmas.{entrance_some, itself_came, parallel_is, parallel_parts, each_came, nothing_came, inside_at, behind, none_leads}
+use Rattle.tree_table.proofs.OpenLemmas.{itself_came, parallel_is, parallel_parts, each_came, nothing_came, inside_at, behind, none_leads}
 use Rattle.tree_table.proofs.opening.+opening.Goals as goal
 
 pub open_at-open_all-requires : goal.open_at-open_all-requires

@@ -1,13 +1,13 @@
 use Rattle.std.proofs.Common.{◌≡◌, ◌∙◌, ◌<◌, ◌-◌, ◌+◌, ap, sym, subst, arith, map, drop, get_or, List, [], ◌∷◌, ℕ, true, length, Option, Some, None}
 use Rattle.std.specs.Prelude.{option_copied}
-use Rattle.exec_tree.specs.Exec.{Exec, nodes, nodes_all, has, AreDistinct, Plan}
+use Rattle.exec_tree.specs.Exec.{Exec, nodes, has, AreDistinct, Plan}
 use Rattle.exec_tree.specs.Arena.{to_execs, of_kind, HasArity}
 use Rattle.exec_tree.specs.Said.{bare_of, kind_of_node}
 use Rattle.exec_tree.specs.declared.kind.Kind.{Kind}
 use Rattle.exec_tree.specs.declared.kind.Kind.TheVariants as kinds
 use Rattle.tree_table.specs.Placed.{place_for, placed_down, placed_all}
-use Rattle.tree_table.specs.Rows.{link_of, AreLinkedBack}
-use Rattle.tree_table.specs.Filled.{opens_or, inner, with_after, Led, LedAll, AreSameBut, IsTold, AreTold, AreToldInOrder}
+use Rattle.tree_table.specs.Rows.{link_of}
+use Rattle.tree_table.specs.Filled.{Led, AreSameBut, IsTold, AreTold, AreToldInOrder}
 use Rattle.tree_table.specs.declared.row.Continuation.{Continuation}
 use Rattle.tree_table.specs.declared.row.Row.{Row}
 use Rattle.tree_table.proofs.PlacedLemmas.{down_zero, down_none, down_node, seen_none, seen_some, bare_within}
