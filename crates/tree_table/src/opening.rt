@@ -13,7 +13,7 @@ ghost use Rattle.tree_table.specs.Table.{IsEntrance, IsTable};
 
 use crate::nodes::{node_at, place_for};
 use crate::row::Row;
-use exec_tree::{Kind, Node};
+use exec_tree::{Kind, MAX_TREE_NESTING, Node};
 use place_set::PlaceSet;
 use trace_law::laws::leads_opens;
 
@@ -120,5 +120,18 @@ fn open_all(
         if let Some(into) = lead_at(arena, rows, levels, elements[k]) {
             open_at(arena, rows, set, into);
         }
+    }
+}
+
+/// Opens the whole tree.
+pub(crate) fn open_whole(arena: &[Node], rows: &[Row], set: &mut PlaceSet)
+    requires shaped { AreShaped (map bare_of arena.now) }
+    requires closed { IsClosed (map bare_of arena.now) 0 (length arena.now) }
+    requires table { IsTable (map bare_of arena.now) rows.now }
+    ensures { (q : ℕ) → holds set.new q ≡ (holds set.old q || has (next (placed (map bare_of arena.now)) []) q) }
+{
+    leads_opens();
+    if let Some(into) = lead_at(arena, rows, MAX_TREE_NESTING, 0) {
+        open_at(arena, rows, set, into);
     }
 }

@@ -12,7 +12,7 @@ ghost use Rattle.tree_table.specs.Rows.{levels_at, executable_at, AreLinkedBack}
 ghost use Rattle.tree_table.specs.Table.{IsElement, IsEntrance, LeadsTo, IsTable};
 
 use crate::leading::lead_down;
-use crate::opening::{lead_at, levels_at, open_at};
+use crate::opening::{lead_at, levels_at, open_at, open_whole};
 use crate::row::{Continuation, Row};
 use crate::telling::tell_down;
 use exec_tree::{MAX_TREE_NESTING, Node, Tree};
@@ -110,5 +110,13 @@ impl Table {
         ensures { (q : ℕ) → holds set.new q ≡ (holds set.old q || has (next (executable_at (map bare_of arena.now) self.now.rows.items place) []) q) }
     {
         open_at(arena, self.rows.as_slice(), set, place);
+    }
+
+    /// Opens the tree: puts into the set where a run can go on before any entry.
+    pub fn open_tree(&self, tree: &Tree, set: &mut PlaceSet)
+        requires { IsTable tree.now.nodes self.now.rows.items }
+        ensures { (q : ℕ) → holds set.new q ≡ (holds set.old q || has (next (placed tree.now.nodes) []) q) }
+    {
+        open_whole(tree.nodes(), self.rows.as_slice(), set);
     }
 }
