@@ -1,4 +1,4 @@
-use Rattle.std.proofs.Common.{◌≡◌, ◌∙◌, ◌||◌, ap, sym, subst, map, List, [], ℕ, Option, Some, None}
+use Rattle.std.proofs.Common.{◌∙◌, ◌||◌, ap, sym, subst, map, List, [], ℕ, Option}
 use Rattle.exec_tree.specs.Exec.{Exec, has}
 use Rattle.exec_tree.specs.Said.{bare_of}
 use Rattle.place_set.specs.Words.{holds}
