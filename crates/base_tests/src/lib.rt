@@ -1,4 +1,4 @@
-//! Tests of the crates that all others stand on: nc_base, nc_outside, path_blocks and run_schedule.
+//! Tests of the crates that all others stand on: nc_base, nc_outside, path_blocks, run_schedule and place_set.
 #![tactic(auto)]
 
 #[cfg(test)]
@@ -11,5 +11,7 @@ mod expected;
 mod outside;
 #[cfg(test)]
 mod paths;
+#[cfg(test)]
+mod places;
 #[cfg(test)]
 mod schedules;

@@ -20,7 +20,7 @@ use Rattle.run_log.specs.declared.entry.Entry.TheVariants.{Dispatch, Block, End,
 use Rattle.run_frames.specs.declared.frame.Frame.{Frame}
 use Rattle.run_frames.specs.declared.frame.Frame.TheVariants as frame
 use Rattle.run_frames.specs.Frames.{told, cells_of, skipped, skipped_at, Leads, LeadsFrom, LeadsEach, AreKeptBut}
-use Rattle.run_frames.specs.Placed.{place_for, placed_down, placed_all}
+use Rattle.tree_table.specs.Placed.{place_for, placed_down, placed_all}
 use Rattle.run_frames.specs.Renaming.{entry_at}
 use Rattle.run_frames.specs.Opened.{AreOpenedInOrder}
 use Rattle.run_frames.specs.Moved.{IsInOrder, IsMove, IsMoved, IsMoveInOrder, AreMovedInOrder}

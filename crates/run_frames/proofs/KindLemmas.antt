@@ -21,7 +21,7 @@ use Rattle.run_frames.specs.declared.frame.Frame.{Frame}
 use Rattle.run_frames.specs.declared.frame.Frame.TheVariants as frame
 use Rattle.run_frames.specs.Deeds.{upto}
 use Rattle.run_frames.specs.Frames.{told, frame_at, cells_of, picked_by, answered_by, left_in, Leads, LeadsEach, LeadsAt, AreKeptBut}
-use Rattle.run_frames.specs.Placed.{placed_down, placed_all}
+use Rattle.tree_table.specs.Placed.{placed_down, placed_all}
 use Rattle.run_frames.specs.Renaming.{entry_at}
 use Rattle.run_frames.specs.Opened.{IsOpened}
 use Rattle.run_frames.specs.Moved.{IsInOrder, IsMove, IsMoved}

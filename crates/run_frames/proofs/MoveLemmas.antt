@@ -14,7 +14,7 @@ use Rattle.run_log.specs.declared.entry.Entry.{Entry}
 use Rattle.run_log.specs.declared.entry.Entry.TheVariants.{Dispatch, Block, End, Pick, Test, Assign, Set, Pass, Note, Edit}
 use Rattle.run_frames.specs.declared.frame.Frame.{Frame}
 use Rattle.run_frames.specs.Frames.{cells_of, Leads, LeadsFrom, LeadsEach}
-use Rattle.run_frames.specs.Placed.{placed_down, placed_all}
+use Rattle.tree_table.specs.Placed.{placed_down, placed_all}
 use Rattle.run_frames.specs.Renaming.{entry_at}
 use Rattle.run_frames.proofs.KeepLemmas.{AreAlike, alike_cells, alike_left, alike_right, next_kept, leads_kept, leads_each_kept, has_append, has_left, has_right, has_rest}
 use Rattle.run_frames.proofs.WriteLemmas.{clash}

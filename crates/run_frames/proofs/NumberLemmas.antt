@@ -13,7 +13,7 @@ use Rattle.run_log.specs.declared.entry.Entry.TheVariants.{Dispatch, Block, End,
 use Rattle.run_frames.specs.declared.search.Search.{Search}
 use Rattle.run_frames.specs.declared.search.Search.TheVariants.{Nothing, Passed, Found}
 use Rattle.run_frames.specs.Search.{behind, searched}
-use Rattle.run_frames.specs.Placed.{place_for, placed_node, placed_down, number_at}
+use Rattle.tree_table.specs.Placed.{place_for, placed_node, placed_down, number_at}
 use Rattle.run_frames.specs.Renaming.{IsOneToOne, renamed, renamed_all, entry_renamed, entry_at}
 use Rattle.run_frames.proofs.RenamingLemmas.{same_number}
 use Rattle.run_frames.proofs.KeepLemmas.{has_left, has_right, has_self, has_rest}

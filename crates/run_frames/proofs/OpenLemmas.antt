@@ -15,7 +15,7 @@ use Rattle.trace_law.specs.Frames.{one_where, going, is_shared, WhereEmpty, OfFi
 use Rattle.run_frames.specs.declared.frame.Frame.{Frame}
 use Rattle.run_frames.specs.declared.frame.Frame.TheVariants.{Left, At}
 use Rattle.run_frames.specs.Frames.{told, cells_of, skipped, Leads, LeadsFrom, LeadsEach, LeadsAt, AreKeptBut}
-use Rattle.run_frames.specs.Placed.{place_for, placed_down, placed_all}
+use Rattle.tree_table.specs.Placed.{place_for, placed_down, placed_all}
 use Rattle.run_frames.specs.Opened.{IsOpened, AreOpenedInOrder, AreOpened}
 use Rattle.run_frames.specs.Fresh.{fresh, goes_at_first}
 use Rattle.run_frames.proofs.PlacedLemmas.{count_is}

@@ -7,7 +7,7 @@ use Rattle.exec_tree.specs.Arena.{to_execs, of_kind}
 use Rattle.exec_tree.specs.Said.{bare_of}
 use Rattle.exec_tree.specs.declared.node.Node.{Node}
 use Rattle.exec_tree.specs.declared.node.BareNode.{BareNode}
-use Rattle.run_frames.specs.Placed.{place_for, placed_down, placed_all}
+use Rattle.tree_table.specs.Placed.{place_for, placed_down, placed_all}
 
 map_is : (arena : List BareNode) (levels : ℕ) (places : List ℕ) → map (λ q. placed_down arena levels q) places ≡ placed_all arena levels places
 map_is arena levels [] = refl

@@ -12,7 +12,7 @@ use Rattle.run_frames.specs.declared.frame.Frame.{Frame}
 use Rattle.run_frames.specs.declared.search.Search.{Search}
 use Rattle.run_frames.specs.declared.search.Search.TheVariants.{Nothing, Passed, Found}
 use Rattle.run_frames.specs.Search.{behind, searched, found_in_both, found_or}
-use Rattle.run_frames.specs.Placed.{placed_down, placed_all}
+use Rattle.tree_table.specs.Placed.{placed_down, placed_all}
 use Rattle.run_frames.specs.Deeds.{upto}
 use Rattle.run_frames.specs.Frames.{frame_at, cells_of, picked_by, Leads, LeadsFrom, LeadsEach, LeadsAt}
 use Rattle.run_frames.proofs.CountLemmas.{picked_told, length_upto, last_upto, of_last_upto, first_upto, of_first_upto}

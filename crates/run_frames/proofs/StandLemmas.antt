@@ -22,7 +22,7 @@ use Rattle.run_frames.specs.Search.{searched}
 use Rattle.run_frames.proofs.DeedLemmas.{offers_there}
 use Rattle.run_frames.specs.Deeds.{upto}
 use Rattle.run_frames.specs.Frames.{cells_of}
-use Rattle.run_frames.specs.Placed.{number_at}
+use Rattle.tree_table.specs.Placed.{number_at}
 use Rattle.run_frames.specs.Renaming.{IsOneToOne, renamed, entry_renamed, entry_at}
 use Rattle.run_frames.specs.Standing.{placed, IsAt, IsNextOf, offer_there}
 use Rattle.run_frames.specs.Moved.{IsInOrder, IsMove, IsMoved}

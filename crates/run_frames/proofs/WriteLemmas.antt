@@ -10,7 +10,7 @@ use Rattle.exec_tree.specs.declared.node.BareNode.{BareNode}
 use Rattle.run_frames.specs.declared.frame.Frame.{Frame}
 use Rattle.run_frames.specs.declared.frame.Frame.TheVariants.{Over}
 use Rattle.run_frames.specs.Frames.{frame_at, AreKeptBut}
-use Rattle.run_frames.specs.Placed.{placed_down, placed_all}
+use Rattle.tree_table.specs.Placed.{placed_down, placed_all}
 use Rattle.run_frames.proofs.RenamingLemmas.{same_number}
 use Rattle.run_frames.proofs.KeepLemmas.{AreAlike, has_left, has_right, has_self, has_rest}
 

@@ -1,5 +1,4 @@
 pub mod Deeds
-pub mod Placed
 pub mod Frames
 pub mod Search
 pub mod Renaming

@@ -14,7 +14,7 @@ use Rattle.trace_law.specs.Offer.{Offer, Does, Picks, Tests, Nothing, offer, off
 use Rattle.run_log.specs.declared.entry.Entry.{Entry}
 use Rattle.run_log.specs.declared.entry.Entry.TheVariants.{Pick}
 use Rattle.run_frames.specs.Deeds.{upto}
-use Rattle.run_frames.specs.Placed.{placed_down, number_at}
+use Rattle.tree_table.specs.Placed.{placed_down, number_at}
 use Rattle.run_frames.specs.Renaming.{entry_renamed}
 use Rattle.run_frames.specs.Frames.{cells_of, Leads}
 use Rattle.run_frames.specs.declared.frames.Frames.{Frames}

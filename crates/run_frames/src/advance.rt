@@ -8,7 +8,7 @@ ghost use Rattle.exec_tree.specs.Exec.{nodes, nodes_all, has, AreDistinct, Plan,
 ghost use Rattle.trace_law.specs.Cells.{next_by, next_by_order, next_by_each};
 ghost use Rattle.trace_law.specs.Leading.{has_none};
 ghost use Rattle.run_frames.specs.Frames.{cells_of, left_in, LeadsFrom, LeadsEach};
-ghost use Rattle.run_frames.specs.Placed.{place_for, placed_down, placed_all};
+ghost use Rattle.tree_table.specs.Placed.{place_for, placed_down, placed_all};
 ghost use Rattle.run_frames.specs.Moved.{IsMove, IsMoved, IsMoveInOrder, AreMovedInOrder};
 
 use crate::entries::{answer_in, cut, ends};

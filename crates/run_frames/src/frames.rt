@@ -55,7 +55,7 @@ struct HasNumber<'a> {
 impl PlaceQuestion for HasNumber<'_> {
     ghost use Rattle.std.specs.Prelude.{◌==◌, map};
     ghost use Rattle.exec_tree.specs.Said.{bare_of};
-    ghost use Rattle.run_frames.specs.Placed.{number_at};
+    ghost use Rattle.tree_table.specs.Placed.{number_at};
 
     ghost says = { λ q place. number_at (map bare_of q.arena.now) place == q.number };
 
@@ -74,7 +74,7 @@ struct ByNumber<'a, Q: Question> {
 impl<Q: Question> PlaceQuestion for ByNumber<'_, Q> {
     ghost use Rattle.std.specs.Prelude.{map};
     ghost use Rattle.exec_tree.specs.Said.{bare_of};
-    ghost use Rattle.run_frames.specs.Placed.{number_at};
+    ghost use Rattle.tree_table.specs.Placed.{number_at};
 
     ghost says = { λ q place. Q.answer q.question.now (number_at (map bare_of q.arena.now) place) };
 

@@ -2,7 +2,7 @@
 
 ghost use Rattle.std.specs.Prelude.{◌≡◌, map, slice_get, option_copied, option_map, slice_index};
 ghost use Rattle.exec_tree.specs.Said.{bare_of};
-ghost use Rattle.run_frames.specs.Placed.{number_at};
+ghost use Rattle.tree_table.specs.Placed.{number_at};
 
 use exec_tree::Node;
 use nc_base::Number;

@@ -5,7 +5,7 @@ ghost use Rattle.exec_tree.specs.Arena.{to_execs, of_kind, AreShaped, HasArity};
 ghost use Rattle.exec_tree.specs.declared.kind.Kind.TheVariants as kinds;
 ghost use Rattle.exec_tree.specs.Said.{bare_of};
 ghost use Rattle.exec_tree.specs.Exec.{nodes, nodes_all, AreDistinct, Plan, Par};
-ghost use Rattle.run_frames.specs.Placed.{place_for, placed_down, placed_all};
+ghost use Rattle.tree_table.specs.Placed.{place_for, placed_down, placed_all};
 ghost use Rattle.run_frames.specs.Opened.{IsOpened, AreOpenedInOrder, AreOpened};
 ghost use Rattle.run_frames.specs.Fresh.{fresh, goes_at_first};
 

@@ -7,7 +7,7 @@ ghost use Rattle.exec_tree.specs.Said.{bare_of};
 ghost use Rattle.trace_law.specs.Cells.{next_by};
 ghost use Rattle.trace_law.specs.Leading.{has_none};
 ghost use Rattle.run_frames.specs.Frames.{cells_of, Leads};
-ghost use Rattle.run_frames.specs.Placed.{placed_down};
+ghost use Rattle.tree_table.specs.Placed.{placed_down};
 
 use crate::frame::Frame;
 use crate::search::{PlaceQuestion, Search, search_down};

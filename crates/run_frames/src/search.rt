@@ -7,7 +7,7 @@ ghost use Rattle.exec_tree.specs.Said.{bare_of};
 ghost use Rattle.exec_tree.specs.Exec.{Exec, NonSeq, Sel, If, While};
 ghost use Rattle.trace_law.specs.Cells.{next_by, next_by_order, next_by_each, next_by_at};
 ghost use Rattle.run_frames.specs.Frames.{cells_of, Leads, LeadsFrom, LeadsEach, LeadsAt, skipped_at};
-ghost use Rattle.run_frames.specs.Placed.{place_for, placed_down, placed_all};
+ghost use Rattle.tree_table.specs.Placed.{place_for, placed_down, placed_all};
 ghost use Rattle.run_frames.specs.Search.{searched, found_in_both, found_or};
 
 use crate::frame::{Frame, answered_by, frame_at, picked_by, skipped};

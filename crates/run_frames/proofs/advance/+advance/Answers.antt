@@ -8,7 +8,7 @@ use Rattle.exec_tree.specs.declared.kind.Kind.TheVariants as kinds
 use Rattle.run_frames.specs.declared.frame.Frame.TheVariants.{At, Left}
 use Rattle.run_frames.specs.declared.frame.Frame.{Frame}
 use Rattle.run_frames.specs.Frames.{frame_at, picked_by, answered_by, left_in}
-use Rattle.run_frames.specs.Placed.{place_for, placed_down, placed_all}
+use Rattle.tree_table.specs.Placed.{place_for, placed_down, placed_all}
 use Rattle.run_frames.specs.Moved.{IsMove, IsMoved}
 use Rattle.run_frames.specs.Opened.{AreOpenedInOrder}
 use Rattle.run_frames.proofs.PlacedLemmas.{down_zero, down_none, down_node, seen_none, seen_some, count_is, bare_within}

@@ -3,7 +3,7 @@ use Rattle.exec_tree.specs.Arena.{to_execs}
 use Rattle.exec_tree.specs.Said.{bare_of}
 use Rattle.trace_law.specs.Cells.{next_by_each}
 use Rattle.run_frames.specs.Frames.{cells_of, LeadsEach}
-use Rattle.run_frames.specs.Placed.{placed_all}
+use Rattle.tree_table.specs.Placed.{placed_all}
 use Rattle.run_frames.proofs.advance.any_goes_on.Given as goal
 
 abbrev pub invariant-loop-place : goal.invariant-loop-place

@@ -3,7 +3,7 @@ use Rattle.std.specs.Prelude.{slice_set}
 use Rattle.exec_tree.specs.Exec.{nodes, AreDistinct}
 use Rattle.exec_tree.specs.Said.{bare_of}
 use Rattle.run_frames.specs.declared.frame.Frame.TheVariants.{PickedFirst}
-use Rattle.run_frames.specs.Placed.{placed_down}
+use Rattle.tree_table.specs.Placed.{placed_down}
 use Rattle.run_frames.specs.Opened.{IsOpened}
 use Rattle.run_frames.proofs.OpenLemmas.{part_once}
 use Rattle.run_frames.proofs.KindLemmas.{choice_facts, sel_chosen}

@@ -2,7 +2,7 @@ use Rattle.std.proofs.Common.{◌≤◌, map}
 use Rattle.exec_tree.specs.Arena.{to_execs}
 use Rattle.exec_tree.specs.Said.{bare_of}
 use Rattle.run_frames.specs.Frames.{LeadsFrom}
-use Rattle.run_frames.specs.Placed.{placed_all}
+use Rattle.tree_table.specs.Placed.{placed_all}
 use Rattle.run_frames.proofs.advance.first_going.Given as goal
 
 abbrev pub invariant-loop-k : goal.invariant-loop-k

@@ -4,7 +4,7 @@ use Rattle.exec_tree.specs.Said.{bare_of}
 use Rattle.exec_tree.specs.Exec.{has}
 use Rattle.trace_law.specs.Cells.{next_by_each}
 use Rattle.run_frames.specs.Frames.{cells_of}
-use Rattle.run_frames.specs.Placed.{placed_all}
+use Rattle.tree_table.specs.Placed.{placed_all}
 use Rattle.run_frames.proofs.advance.holder.Given as goal
 
 abbrev pub invariant-loop-k : goal.invariant-loop-k

@@ -5,7 +5,7 @@ use Rattle.exec_tree.specs.Arena.{to_execs}
 use Rattle.exec_tree.specs.Said.{bare_of}
 use Rattle.run_frames.specs.declared.frame.Frame.TheVariants.{PickedFirst}
 use Rattle.run_frames.specs.Frames.{frame_at, picked_by}
-use Rattle.run_frames.specs.Placed.{placed_down, placed_all}
+use Rattle.tree_table.specs.Placed.{placed_down, placed_all}
 use Rattle.run_frames.specs.Opened.{IsOpened}
 use Rattle.run_frames.proofs.PlacedLemmas.{count_is}
 use Rattle.run_frames.proofs.OpenLemmas.{part_once}

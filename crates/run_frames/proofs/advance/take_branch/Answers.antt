@@ -4,7 +4,7 @@ use Rattle.exec_tree.specs.Exec.{Exec, nodes, AreDistinct}
 use Rattle.exec_tree.specs.Arena.{first_of, second_of}
 use Rattle.exec_tree.specs.Said.{bare_of}
 use Rattle.run_frames.specs.declared.frame.Frame.TheVariants.{Answered}
-use Rattle.run_frames.specs.Placed.{placed_down, placed_all}
+use Rattle.tree_table.specs.Placed.{placed_down, placed_all}
 use Rattle.run_frames.specs.Opened.{IsOpened}
 use Rattle.run_frames.proofs.WriteLemmas.{once_left, once_right}
 use Rattle.run_frames.proofs.KindLemmas.{if_opened, first_is, second_is}

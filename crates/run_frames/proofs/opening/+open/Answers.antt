@@ -6,7 +6,7 @@ use Rattle.exec_tree.specs.Arena.{to_execs, of_kind, HasArity}
 use Rattle.exec_tree.specs.Said.{bare_of, kind_of_node}
 use Rattle.exec_tree.specs.declared.kind.Kind.{Kind}
 use Rattle.exec_tree.specs.declared.kind.Kind.TheVariants as kinds
-use Rattle.run_frames.specs.Placed.{place_for, placed_all}
+use Rattle.tree_table.specs.Placed.{place_for, placed_all}
 use Rattle.run_frames.specs.Opened.{IsOpened}
 use Rattle.run_frames.proofs.PlacedLemmas.{down_zero, down_none, down_node, seen_none, seen_some, count_is, bare_within, whole}
 use Rattle.run_frames.proofs.OpenLemmas.{opened_nothing, opened_at, part_once, over_step, order_done, order_found, each_opened, plan_opened, plain_plan_opened, parallel_opened, IsPrefixOver, IsPrefixOpened}

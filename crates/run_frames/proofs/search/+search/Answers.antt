@@ -7,7 +7,7 @@ use Rattle.exec_tree.specs.Said.{bare_of, kind_of_node}
 use Rattle.exec_tree.specs.declared.kind.Kind.{Kind}
 use Rattle.trace_law.specs.Cells.{next_by, next_by_order, next_by_each}
 use Rattle.run_frames.specs.Frames.{cells_of, Leads, LeadsFrom, picked_by}
-use Rattle.run_frames.specs.Placed.{place_for, placed_all}
+use Rattle.tree_table.specs.Placed.{place_for, placed_all}
 use Rattle.run_frames.specs.Search.{searched, found_in_both}
 use Rattle.run_frames.proofs.PlacedLemmas.{down_zero, down_none, down_node, seen_none, seen_some, count_is}
 use Rattle.run_frames.proofs.SearchLemmas.{at_place, at_none, leads_place, tail_is, order_behind, leads_behind, none_behind, leads_last, leads_first, next_chosen, each_step, leads_step, picking_first, picking_on, picking_inside}

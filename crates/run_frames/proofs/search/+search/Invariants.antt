@@ -3,7 +3,7 @@ use Rattle.exec_tree.specs.Arena.{to_execs}
 use Rattle.exec_tree.specs.Said.{bare_of}
 use Rattle.trace_law.specs.Cells.{next_by_order, next_by_each}
 use Rattle.run_frames.specs.Frames.{cells_of, LeadsFrom, LeadsEach}
-use Rattle.run_frames.specs.Placed.{placed_all}
+use Rattle.tree_table.specs.Placed.{placed_all}
 use Rattle.run_frames.specs.Search.{searched, found_in_both}
 use Rattle.run_frames.proofs.search.+search.Given as goal
 

@@ -5,6 +5,7 @@ use Rattle.exec_tree.specs.Exec.{Exec, Plan, None_left}
 use Rattle.exec_tree.specs.Arena.{of_kind, number_or_zero}
 use Rattle.exec_tree.specs.declared.kind.Kind.{Kind}
 use Rattle.exec_tree.specs.declared.kind.Kind.TheVariants as kind
+use Rattle.exec_tree.specs.declared.limits.TheConstants.{MAX_TREE_NESTING}
 use Rattle.exec_tree.specs.declared.node.BareNode.{BareNode}
 
 -- the place in place of the number; a plan without a number stays without
@@ -29,3 +30,7 @@ placed_all arena levels (place ∷ places) = placed_down arena levels place ∷ 
 -- the number of the node at a place
 abbrev pub number_at : List BareNode → ℕ → ℕ
 number_at arena place = option_map_or (λ node. number_or_zero node.number) (slice_get arena place) 0
+
+-- the tree that the nodes hold, numbered by places
+abbrev pub placed : List BareNode → Exec
+placed arena = placed_down arena MAX_TREE_NESTING 0

@@ -1,0 +1,4 @@
+pub mod BitLemmas
+pub mod SumLemmas
+pub mod LevelLemmas
+pub mod BlankLemmas
