@@ -1,4 +1,4 @@
-//! Tests of the trace law and of the log's entries of all kinds: trace_law, run_log.
+//! Tests of the trace law, of tables of trees, and of the log's entries of all kinds: trace_law, tree_table, run_log.
 #![tactic(auto)]
 
 #[cfg(test)]
@@ -7,5 +7,7 @@ mod lines;
 mod rows;
 #[cfg(test)]
 mod runs;
+#[cfg(test)]
+mod tables;
 #[cfg(test)]
 mod trees;

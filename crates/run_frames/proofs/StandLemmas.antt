@@ -22,9 +22,9 @@ use Rattle.run_frames.specs.Search.{searched}
 use Rattle.run_frames.proofs.DeedLemmas.{offers_there}
 use Rattle.run_frames.specs.Deeds.{upto}
 use Rattle.run_frames.specs.Frames.{cells_of}
-use Rattle.tree_table.specs.Placed.{number_at}
+use Rattle.tree_table.specs.Placed.{placed, number_at}
 use Rattle.run_frames.specs.Renaming.{IsOneToOne, renamed, entry_renamed, entry_at}
-use Rattle.run_frames.specs.Standing.{placed, IsAt, IsNextOf, offer_there}
+use Rattle.run_frames.specs.Standing.{IsAt, IsNextOf, offer_there}
 use Rattle.run_frames.specs.Moved.{IsInOrder, IsMove, IsMoved}
 use Rattle.run_frames.specs.Opened.{IsOpened}
 use Rattle.run_frames.proofs.RenamingLemmas.{next_map, offer_map, nodes_map, number_map, same_number}

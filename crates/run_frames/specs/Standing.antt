@@ -14,14 +14,10 @@ use Rattle.trace_law.specs.Offer.{Offer, Does, Picks, Tests, Nothing, offer, off
 use Rattle.run_log.specs.declared.entry.Entry.{Entry}
 use Rattle.run_log.specs.declared.entry.Entry.TheVariants.{Pick}
 use Rattle.run_frames.specs.Deeds.{upto}
-use Rattle.tree_table.specs.Placed.{placed_down, number_at}
+use Rattle.tree_table.specs.Placed.{placed, number_at}
 use Rattle.run_frames.specs.Renaming.{entry_renamed}
 use Rattle.run_frames.specs.Frames.{cells_of, Leads}
 use Rattle.run_frames.specs.declared.frames.Frames.{Frames}
-
--- the tree that the nodes hold, numbered by places
-abbrev pub placed : List BareNode → Exec
-placed nodes = placed_down nodes MAX_TREE_NESTING 0
 
 -- the frames, one for each node, stand for the entries t, a run so far; these, as entries of places, are one of the placed tree
 pub record IsAt (nodes : List BareNode) (f : Frames) (t : List Entry) : Type 0 where

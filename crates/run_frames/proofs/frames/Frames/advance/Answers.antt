@@ -9,8 +9,7 @@ use Rattle.exec_tree.specs.declared.node.BareNode.{BareNode}
 use Rattle.trace_law.specs.Cells.{next_by}
 use Rattle.run_frames.specs.Search.{searched}
 use Rattle.run_frames.specs.Frames.{cells_of}
-use Rattle.tree_table.specs.Placed.{number_at}
-use Rattle.run_frames.specs.Standing.{placed}
+use Rattle.tree_table.specs.Placed.{placed, number_at}
 use Rattle.run_frames.proofs.RenamedPartLemmas.{PartLaws}
 use Rattle.run_frames.proofs.StandLemmas.{FrameLaws, placed_once, next_is, move_is, stands_more, entry_there, numbered_entry, said_of, place_is_found, found_place_is}
 use Rattle.run_frames.proofs.frames.Frames.advance.Goals as goal

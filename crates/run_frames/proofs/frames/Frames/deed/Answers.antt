@@ -10,8 +10,7 @@ use Rattle.exec_tree.specs.Said.{bare_of, kind_of_node}
 use Rattle.trace_law.specs.Cells.{next_by}
 use Rattle.run_frames.specs.Search.{searched}
 use Rattle.run_frames.specs.Frames.{cells_of, told, frame_at}
-use Rattle.tree_table.specs.Placed.{number_at}
-use Rattle.run_frames.specs.Standing.{placed}
+use Rattle.tree_table.specs.Placed.{placed, number_at}
 use Rattle.run_frames.proofs.StandLemmas.{FrameLaws, said_of, place_is_found, found_place_is, deed_is}
 use Rattle.run_frames.proofs.DeedLemmas.{does_something}
 use Rattle.run_frames.proofs.frames.Frames.deed.Goals as goal

@@ -3,8 +3,7 @@ use Rattle.exec_tree.specs.declared.node.BareNode.{BareNode}
 use Rattle.trace_law.specs.Cells.{next_by}
 use Rattle.run_frames.specs.Search.{searched}
 use Rattle.run_frames.specs.Frames.{cells_of}
-use Rattle.tree_table.specs.Placed.{number_at}
-use Rattle.run_frames.specs.Standing.{placed}
+use Rattle.tree_table.specs.Placed.{placed, number_at}
 use Rattle.run_frames.proofs.StandLemmas.{FrameLaws, said_of, find_is, missed_is_none}
 use Rattle.run_frames.proofs.NumberLemmas.{found_number}
 use Rattle.run_frames.proofs.frames.Frames.first.Goals as goal

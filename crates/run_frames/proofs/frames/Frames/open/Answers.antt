@@ -7,7 +7,7 @@ use Rattle.run_frames.proofs.PlacedLemmas.{length_map}
 use Rattle.exec_tree.specs.Exec.{AreDistinct, nodes}
 use Rattle.exec_tree.specs.declared.node.BareNode.{BareNode}
 use Rattle.exec_tree.specs.Said.{bare_of}
-use Rattle.run_frames.specs.Standing.{placed}
+use Rattle.tree_table.specs.Placed.{placed}
 use Rattle.run_frames.proofs.StandLemmas.{placed_once, stands_first}
 use Rattle.run_frames.proofs.frames.Frames.open.Goals as goal
 
