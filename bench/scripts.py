@@ -26,26 +26,36 @@ def again(r, project):
     return [] if number is None else [(number, copy.deepcopy(project.instances[number]))]
 
 
-def with_number(r, project, numbers=NUMBERS):
+def numbers_of(instance):
+    """The used positions where a number may stand."""
+    return [used for used in USED[instance.code] if used.kind in ("num", "len", "val")]
+
+
+def with_number(r, project):
     """An instance with another number at a used position."""
     found = again(r, project)
     for _, instance in found:
-        used = pick(r, [used for used in USED[instance.code] if used.kind in ("num", "len", "val")])
+        used = pick(r, numbers_of(instance))
         if used:
-            instance.put(used.position, spelled(r, r.choice(numbers)))
+            instance.put(used.position, spelled(r, r.choice(NUMBERS)))
     return found
 
 
 def with_bad_number(r, project):
-    """An instance with a number that few definitions allow."""
-    return with_number(r, project, [-50_000, -1, 0, 10**8 + 1])
+    """An instance that a step leads to, with a number that few definitions allow."""
+    number = pick(r, [number for number in replaceable(project, reached(project)) if numbers_of(project.instances[number])])
+    if number is None:
+        return []
+    instance = copy.deepcopy(project.instances[number])
+    instance.put(r.choice(numbers_of(instance)).position, spelled(r, r.choice([-50_000, -1, 0, 10**8 + 1])))
+    return [(number, instance)]
 
 
 def with_reference(r, project):
     """An instance that refers to another one: of the right kind, of a wrong one, or to none."""
     found = again(r, project)
     for _, instance in found:
-        is_lost = r.random() < 0.4
+        is_lost = r.random() < 0.55
         used = pick(r, [used for used in USED[instance.code] if used.target or is_lost and used.kind in ("ref", "len", "val", "list", "list1")])
         if used:
             other = Ref(project.fresh() if is_lost else r.choice(list(project.instances)))
@@ -97,7 +107,7 @@ def all_steps(r, project):
     return [(number, copy.deepcopy(project.instances[number])) for number in project.steps if number in project.instances]
 
 
-CHANGES = [(25, again), (30, with_number), (25, with_bad_number), (12, with_reference), (8, with_wrong_kind), (12, with_copy), (6, new_one), (5, of_program), (3, all_steps)]
+CHANGES = [(20, again), (25, with_number), (30, with_bad_number), (22, with_reference), (9, with_wrong_kind), (12, with_copy), (5, new_one), (4, of_program), (3, all_steps)]
 
 
 def tokens_of_edit(r, at, items):
