@@ -102,12 +102,22 @@ def of_program(r, project):
     return [] if first is None else [(first, copy.deepcopy(project.instances[second]))]
 
 
+def one_more(r, project, number):
+    """The instance of an earlier edit once more, mostly with another number."""
+    if number not in project.instances:
+        return []
+    instance = copy.deepcopy(project.instances[number])
+    if numbers_of(instance) and r.random() < 0.8:
+        instance.put(r.choice(numbers_of(instance)).position, spelled(r, r.choice(NUMBERS)))
+    return [(number, instance)]
+
+
 def all_steps(r, project):
     """Each workingstep again."""
     return [(number, copy.deepcopy(project.instances[number])) for number in project.steps if number in project.instances]
 
 
-CHANGES = [(20, again), (25, with_number), (30, with_bad_number), (22, with_reference), (9, with_wrong_kind), (12, with_copy), (5, new_one), (4, of_program), (3, all_steps)]
+CHANGES = [(20, again), (25, with_number), (30, with_bad_number), (22, with_reference), (9, with_wrong_kind), (12, with_copy), (5, new_one), (4, of_program), (9, all_steps)]
 
 
 def tokens_of_edit(r, at, items):
@@ -129,13 +139,17 @@ def random_script(r, project):
         return None
     if r.random() < 0.003:  # about as large as one may be
         return r.choice([b" ", b"\n", b";", b"/"]) * (MOST_BYTES + r.choice([-1, 0, 1, 1]))
-    tokens, at = [], 0
+    tokens, at, put = [], 0, []
     changing = copy.deepcopy(project) if r.random() < 0.7 else project
     for _ in range(r.choice([0, 1, 1, 2, 3, 5, 9])):
-        at += r.choice([0, 0, 0, 0, 1, 3, 12, 40, 300, 3_000])
+        at += r.choice([0, 0, 0, 0, 1, 3, r.randrange(12), r.randrange(60), 300, 3_000])
         if r.random() < 0.01:
             at = max(0, at - r.randrange(20))
-        items = [item for _ in range(r.choice([0, 1, 1, 1, 2, 4])) for item in chosen(r, CHANGES)(r, changing)]
+        if put and r.random() < 0.2:
+            items = one_more(r, changing, put[-1])
+        else:
+            items = [item for _ in range(r.choice([0, 1, 1, 1, 2, 4])) for item in chosen(r, CHANGES)(r, changing)]
+        put += [number for number, _ in items]
         seen = set()
         items = [item for item in items if r.random() < 0.02 or not (item[0] in seen or seen.add(item[0]))]
         tokens += tokens_of_edit(r, min(at, 9_999_999), items)
