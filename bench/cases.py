@@ -6,6 +6,8 @@ import projects
 import scripts
 from oracle import MOST_BYTES, MOST_ENTRIES
 
+LOOP = 7  # the class of a while
+
 # ---- Schedules. ----
 
 
@@ -32,15 +34,15 @@ def random_schedule(r):
     return "".join(pieces).encode("latin-1")
 
 
-def random_limit(r, is_nested):
+def random_limit(r, may_loop):
     """A limit. Trees may have loops without an end, of which the greatest limit would take minutes here; bench/hostile has such."""
     small = [1, r.randint(1, 30), r.randint(1, 300)]
-    if is_nested:
+    if may_loop:
         return r.choice(small + [r.randint(1, 3_000), r.randint(1, 3_000), 20_000]) if r.random() < 0.997 else 100_000
     return r.choice(small + [r.randint(1, 40_000), MOST_ENTRIES, MOST_ENTRIES])
 
 
-def random_words(r, names, steps, is_nested):
+def random_words(r, names, steps, may_loop):
     """The words of a command for the files of these names, project, script and schedule; a few of them are faulty."""
     file_name, script_name, schedule_name = names
     if r.random() < 0.02:
@@ -50,7 +52,7 @@ def random_words(r, names, steps, is_nested):
         return begin + [r.choice(pool) for _ in range(r.randrange(4))]
     if r.random() < 0.8:
         script = script_name if r.random() < 0.75 else "-"
-        return ["replay", file_name, script, schedule_name if r.random() < 0.7 else "-", str(random_limit(r, is_nested))]
+        return ["replay", file_name, script, schedule_name if r.random() < 0.7 else "-", str(random_limit(r, may_loop))]
     number = r.choice(steps) if steps and r.random() < 0.8 else r.choice([1, 2, r.randint(1, 200), 2_147_483_647])
     return ["path", file_name, str(number)]
 
@@ -59,5 +61,6 @@ def random_case(seed, index, names):
     """Case `index` of a seed: the bytes of project, script and schedule, None where there is no such file, and the words of the command."""
     r = random.Random(f"{seed} {index}")
     data, project = projects.random_file(r)
-    words = random_words(r, names, project.steps, project.is_nested)
+    may_loop = project.is_nested or any(instance.code == LOOP for instance in project.instances.values())
+    words = random_words(r, names, project.steps, may_loop)
     return [data, scripts.random_script(r, project), random_schedule(r)], words

@@ -118,6 +118,11 @@ def nodes_of(store, main, parts_of, channel_of, channels):
     return node_of(main.number, 0)
 
 
+def channels_of(node):
+    """How many channels a tree has: channel 0, and those that its workplans name."""
+    return max([node.channel + 1] + [channels_of(part) for part in node.parts if part])
+
+
 # ---- Frames: how far a run has come in an executable. ----
 
 
@@ -378,7 +383,7 @@ class Run:
 
 
 def replay(store, root, path, schedule, limit, revisions):
-    """The lines of the entries under a schedule of channels, and the ending: the scheduled turns, and then rounds of all channels."""
+    """The lines of the entries under a schedule of channels, and the ending: the scheduled turns, and then rounds of all channels that the project has."""
     run = Run(store, root, path, limit, revisions)
     idle = set()  # the channels whose last turn made nothing, with nothing made since
     for channel in schedule:
@@ -389,6 +394,6 @@ def replay(store, root, path, schedule, limit, revisions):
                 idle.add(channel)
                 if len(idle) == 8:
                     break
-    while any([run.turn(channel) for channel in range(8)]):
+    while any([run.turn(channel) for channel in range(channels_of(root))]):
         pass
     return run.entries, run.ending()

@@ -26,26 +26,36 @@ def again(r, project):
     return [] if number is None else [(number, copy.deepcopy(project.instances[number]))]
 
 
-def with_number(r, project, numbers=NUMBERS):
+def numbers_of(instance):
+    """The used positions where a number may stand."""
+    return [used for used in USED[instance.code] if used.kind in ("num", "len", "val")]
+
+
+def with_number(r, project):
     """An instance with another number at a used position."""
     found = again(r, project)
     for _, instance in found:
-        used = pick(r, [used for used in USED[instance.code] if used.kind in ("num", "len", "val")])
+        used = pick(r, numbers_of(instance))
         if used:
-            instance.put(used.position, spelled(r, r.choice(numbers)))
+            instance.put(used.position, spelled(r, r.choice(NUMBERS)))
     return found
 
 
 def with_bad_number(r, project):
-    """An instance with a number that few definitions allow."""
-    return with_number(r, project, [-50_000, -1, 0, 10**8 + 1])
+    """An instance that a step leads to, with a number that few definitions allow."""
+    number = pick(r, [number for number in replaceable(project, reached(project)) if numbers_of(project.instances[number])])
+    if number is None:
+        return []
+    instance = copy.deepcopy(project.instances[number])
+    instance.put(r.choice(numbers_of(instance)).position, spelled(r, r.choice([-50_000, -1, 0, 10**8 + 1])))
+    return [(number, instance)]
 
 
 def with_reference(r, project):
     """An instance that refers to another one: of the right kind, of a wrong one, or to none."""
     found = again(r, project)
     for _, instance in found:
-        is_lost = r.random() < 0.4
+        is_lost = r.random() < 0.55
         used = pick(r, [used for used in USED[instance.code] if used.target or is_lost and used.kind in ("ref", "len", "val", "list", "list1")])
         if used:
             other = Ref(project.fresh() if is_lost else r.choice(list(project.instances)))
@@ -92,12 +102,22 @@ def of_program(r, project):
     return [] if first is None else [(first, copy.deepcopy(project.instances[second]))]
 
 
+def one_more(r, project, number):
+    """The instance of an earlier edit once more, mostly with another number."""
+    if number not in project.instances:
+        return []
+    instance = copy.deepcopy(project.instances[number])
+    if numbers_of(instance) and r.random() < 0.8:
+        instance.put(r.choice(numbers_of(instance)).position, spelled(r, r.choice(NUMBERS)))
+    return [(number, instance)]
+
+
 def all_steps(r, project):
     """Each workingstep again."""
     return [(number, copy.deepcopy(project.instances[number])) for number in project.steps if number in project.instances]
 
 
-CHANGES = [(25, again), (30, with_number), (25, with_bad_number), (12, with_reference), (8, with_wrong_kind), (12, with_copy), (6, new_one), (5, of_program), (3, all_steps)]
+CHANGES = [(20, again), (25, with_number), (30, with_bad_number), (22, with_reference), (9, with_wrong_kind), (12, with_copy), (5, new_one), (4, of_program), (9, all_steps)]
 
 
 def tokens_of_edit(r, at, items):
@@ -119,13 +139,17 @@ def random_script(r, project):
         return None
     if r.random() < 0.003:  # about as large as one may be
         return r.choice([b" ", b"\n", b";", b"/"]) * (MOST_BYTES + r.choice([-1, 0, 1, 1]))
-    tokens, at = [], 0
+    tokens, at, put = [], 0, []
     changing = copy.deepcopy(project) if r.random() < 0.7 else project
     for _ in range(r.choice([0, 1, 1, 2, 3, 5, 9])):
-        at += r.choice([0, 0, 0, 0, 1, 3, 12, 40, 300, 3_000])
+        at += r.choice([0, 0, 0, 0, 1, 3, r.randrange(12), r.randrange(60), 300, 3_000])
         if r.random() < 0.01:
             at = max(0, at - r.randrange(20))
-        items = [item for _ in range(r.choice([0, 1, 1, 1, 2, 4])) for item in chosen(r, CHANGES)(r, changing)]
+        if put and r.random() < 0.2:
+            items = one_more(r, changing, put[-1])
+        else:
+            items = [item for _ in range(r.choice([0, 1, 1, 1, 2, 4])) for item in chosen(r, CHANGES)(r, changing)]
+        put += [number for number, _ in items]
         seen = set()
         items = [item for item in items if r.random() < 0.02 or not (item[0] in seen or seen.add(item[0]))]
         tokens += tokens_of_edit(r, min(at, 9_999_999), items)

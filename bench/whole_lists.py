@@ -160,6 +160,6 @@ def replay(store, root, path, schedule, limit, revisions):
     for channel in schedule:
         turn(channel)
     while ending() is None:
-        for channel in range(8):
+        for channel in range(max(node.channel for node in nodes) + 1):
             turn(channel)
     return [line_of(entry) for entry in entries], ending()
