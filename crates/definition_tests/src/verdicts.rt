@@ -104,7 +104,8 @@ const DISPATCHED: &str = "10|#30=DRILLING($,$,$,6.,$,#44,#45,$,$,$,$,$);|J4 10 0
     10 11 12|#99=CARTESIAN_POINT('',(1.,0.,0.));|accepted\n\
     10 11 12||accepted";
 
-/// J5: the least step of the tree that is reached and has a fault in the store with the edit put, with the code of the fault. Step 19 has one all along, and isn't in the tree.
+/// J5: the least step of the tree that is reached and has a fault in the store with the edit put, with the code of the fault. Step 19 has one all along, and isn't in the tree. Some
+/// rows make steps refer to the same.
 const FAULTY: &str = "|#20=ROUND_HOLE('',$,$,#60,#51,0.);|J5 10 6\n\
     |#21=ROUND_HOLE('',$,$,#60,#51,0.);|J5 11 6\n\
     |#45=MILLING_TECHNOLOGY(0.,$,$,20.);|J5 10 6\n\
@@ -117,6 +118,11 @@ const FAULTY: &str = "|#20=ROUND_HOLE('',$,$,#60,#51,0.);|J5 10 6\n\
     |#12=MACHINING_WORKINGSTEP('',$,#20,#31);#11=MACHINING_WORKINGSTEP('',$,#21,#30);|J5 11 1\n\
     |#31=DRILLING($,$,$,6.,$,#44,#45,$,$,$,$,$);|accepted\n\
     |#19=MACHINING_WORKINGSTEP('',$,#21,#31);|accepted\n\
+    |#11=MACHINING_WORKINGSTEP('',#50,#20,#30);#20=ROUND_HOLE('',$,$,#60,#51,11.);|accepted\n\
+    |#11=MACHINING_WORKINGSTEP('',#50,#20,#30);#20=ROUND_HOLE('',$,$,#60,#51,0.);|J5 10 6\n\
+    |#11=MACHINING_WORKINGSTEP('',#50,#20,#30);#31=DRILLING((),$,$,5.,$,#44,#45,$,$,$,$,$);#30=DRILLING($,$,$,5.,$,#44,#45,$,$,$,$,$);|J5 12 2\n\
+    |#10=MACHINING_WORKINGSTEP('',#50,#20,#30);#11=MACHINING_WORKINGSTEP('',#50,#20,#30);#12=MACHINING_WORKINGSTEP('',$,#20,#30);|J5 12 1\n\
+    |#11=MACHINING_WORKINGSTEP('',$,#21,#30);#12=MACHINING_WORKINGSTEP('',$,#21,#30);|J5 11 1\n\
     |#100=ROUND_HOLE('',$,$,#60,#51,0.);|accepted\n\
     |#20=ROUND_HOLE('',$,$,#60,#51,0.);#10=MACHINING_WORKINGSTEP('',#50,#21,#30);#12=MACHINING_WORKINGSTEP('',#50,#21,#31);|accepted";
 

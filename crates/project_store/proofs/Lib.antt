@@ -8,5 +8,6 @@ pub mod Sound
 pub mod MissingLemmas
 pub mod Least
 pub mod PuttingLemmas
+pub mod NotedLemmas
 pub mod StoreLemmas
 pub mod LastLemmas

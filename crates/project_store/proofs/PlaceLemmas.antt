@@ -1,9 +1,10 @@
 -- Looking a number up among places.
-use Rattle.std.proofs.Common.{Less, Equal, Greater, ◌≡◌, ℕ, zero, suc, ◌+◌, ◌<◌, ◌==◌, nat_eq, Bool, true, false, cond, List, [], ◌∷◌, ◌++◌, length, drop, get_or, Some, None, Err, ◌≤◌, ⊎_elim, refl, sym, ap, subst, ◌∙◌, arith, add-one, drop-cons, append_assoc}
-use Rattle.std.specs.Prelude.{slice_get}
+use Rattle.std.proofs.Common.{Less, Equal, Greater, ◌≡◌, ℕ, zero, suc, ◌+◌, ◌<◌, ◌==◌, nat_eq, Bool, true, false, cond, List, [], ◌∷◌, ◌++◌, length, drop, get_or, Option, Some, None, Err, ◌≤◌, ◌⊎◌, inl, inr, ⊎_elim, refl, sym, ap, subst, ◌∙◌, arith, add-one, drop-cons, append_assoc}
+use Rattle.std.specs.Prelude.{slice_get, IfSome, IfNone}
 use Rattle.std.specs.List.{IsDistinct, AllByRecursion, Contains}
-use Rattle.std.specs.List.Sorted.{IsNonDecreasingBy, IsBinarySearchResult}
+use Rattle.std.specs.List.Sorted.{IsNonDecreasingBy, IsBinarySearchResult, IsPermutation}
 use Rattle.std.specs.Ordering.{nat_cmp, ordering_index}
+use Rattle.std.specs.BTreeMap.{BTreeMap}
 use Rattle.std.proofs.lemmas.Bool.Decides.{nat_tests}
 use Rattle.std.proofs.lemmas.Bool.{cases_order}
 use Rattle.std.proofs.lemmas.Cmp.{ranked}
@@ -12,7 +13,7 @@ use Rattle.std.proofs.lemmas.List.Sorted.{Contains-permutation, IsPermutation-sy
 use Rattle.entity_types.specs.declared.entity.Entity.{Entity}
 use Rattle.project_store.specs.declared.places.Place.{Place}
 use Rattle.project_store.specs.Entities.{numbers_of, entity_at}
-use Rattle.project_store.specs.Places.{place_at, places_from, AreOrdered, IsIndex, IsAt}
+use Rattle.project_store.specs.Places.{place_at, places_from, AreOrdered, IsIndex, IsAt, Leads}
 
 -- ---- the places of entities
 
@@ -95,19 +96,6 @@ got [] i e l h = absurd (omega arith)
 got (x ∷ xs) zero e l h = ap (λ (y : Entity). Some y) (sym h)
 got (x ∷ xs) (suc i) e l h = got xs i e (omega arith) h
 
--- a place of the number is that of an entity of the number
-pub leads : (opening added : List Place) (es : List Entity) (n i : ℕ) → IsIndex opening added es → Contains (opening ++ added) (place_at n i) → IsAt es n i
-leads opening added es n i index has =
-    let is = is_place es 0 (place_at n i) (Contains-permutation (opening ++ added) (places_from 0 es) (place_at n i) (IsPermutation-sym (places_from 0 es) (opening ++ added) index.all) has) in
-    let same : i ≡ is.behind = omega (arith, is.index) in
-    (is.entity, ap (slice_get es) same ∙ is.there, sym is.number)
-
--- an entity's place is among them
-pub has_its_place : (opening added : List Place) (es : List Entity) (j : ℕ) (e : Entity) → IsIndex opening added es → slice_get es j ≡ Some e → Contains (opening ++ added) (place_at e.number j)
-has_its_place opening added es j e index there =
-    let has : Contains (places_from 0 es) (place_at e.number j) = subst (λ (k : ℕ). Contains (places_from 0 es) (place_at e.number k)) (omega arith) (has_place es 0 j e there) in
-    Contains-permutation (places_from 0 es) (opening ++ added) (place_at e.number j) index.all has
-
 -- what stands somewhere is found by its number
 pub at_found : (es : List Entity) (n i : ℕ) → IsDistinct nat_eq (numbers_of es) → (at : IsAt es n i) → entity_at es n ≡ Some at.0
 at_found es n i distinct at = ap (entity_at es) (sym at.2) ∙ found_there es i at.0 distinct at.1
@@ -127,10 +115,33 @@ at_one_place (x ∷ xs) n (suc i) zero d p q =
     absurd (other x.number p.0.number (number ∙ sym p.2) (other_number x.number xs i p.0 d.0 p.1))
 at_one_place (x ∷ xs) n (suc i) (suc j) d p q = ap suc (at_one_place xs n i j d.1 p q)
 
--- where no place is of the number, no entity is
-pub leads_nowhere : (opening added : List Place) (es : List Entity) (n : ℕ) → IsIndex opening added es → ((p : Place) → Contains (opening ++ added) p → p.number ≡ n → ⊥) → entity_at es n ≡ None
-leads_nowhere opening added es n index never =
-    found_nowhere es n (λ j e there is. never (place_at e.number j) (has_its_place opening added es j e index there) is)
+-- entities with the places of all of them in order of number
+pub index_made : (opening : List Place) (added : BTreeMap ℕ ℕ) (es : List Entity) → AreOrdered opening → IsPermutation (places_from 0 es) opening → IsDistinct nat_eq (numbers_of es) → IsIndex opening added es
+index_made opening added es ordered all distinct = record {
+  ordered = ordered;
+  sound = λ n i has.
+      let is = is_place es 0 (place_at n i) (Contains-permutation opening (places_from 0 es) (place_at n i) (IsPermutation-sym (places_from 0 es) opening all) has) in
+      let same : i ≡ is.behind = omega (arith, is.index) in
+      (is.entity, ap (slice_get es) same ∙ is.there, sym is.number);
+  complete = λ n i at.
+      let has = has_place es 0 i at.0 at.1 in
+      let place : place_at at.0.number (0 + i) ≡ place_at n i = ap (λ (m : ℕ). place_at m (0 + i)) at.2 ∙ ap (place_at n) (omega arith) in
+      inl (Contains-permutation (places_from 0 es) opening (place_at n i) all (subst (Contains (places_from 0 es)) place has));
+  distinct = distinct;
+}
+
+-- what a search by the places of an index tells
+abbrev pub Found : List Entity → ℕ → Option ℕ → Type 0
+Found es n o = IfSome o (IsAt es n) × IfNone o ((i : ℕ) → IsAt es n i → ⊥)
+
+pub told : (opening : List Place) (added : BTreeMap ℕ ℕ) (es : List Entity) (n : ℕ) (o : Option ℕ) → IsIndex opening added es → IfSome o (λ i. Contains opening (place_at n i) ⊎ IsAt es n i)
+    → IfNone o ((i : ℕ) → Leads opening added n i → IsAt es n i → ⊥) → Found es n o
+told opening added es n None index found none = (tt, λ i at. none i (index.complete n i at) at)
+told opening added es n (Some i) index found none = (elim found [ inl has ↦ index.sound n i has | inr at ↦ at ], tt)
+
+-- where no entity of the number stands, none is found
+pub none_found : (es : List Entity) (n : ℕ) → ((i : ℕ) → IsAt es n i → ⊥) → entity_at es n ≡ None
+none_found es n never = found_nowhere es n (λ j e there is. never j (e, there, is))
 
 -- ---- the search
 

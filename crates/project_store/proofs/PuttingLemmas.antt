@@ -1,20 +1,19 @@
 -- Items put into a store as a list: what is found in it, and where each number stands.
-use Rattle.std.proofs.Common.{◌≡◌, ℕ, zero, suc, ◌+◌, ◌<◌, ◌≤◌, ◌==◌, nat_eq, Bool, true, false, cond, List, [], ◌∷◌, ◌++◌, length, drop, Option, Some, None, refl, sym, ap, subst, ◌∙◌, arith, append_assoc}
-use Rattle.std.specs.Prelude.{slice_get, slice_set, is_some, if◌then◌else◌}
+use Rattle.std.proofs.Common.{◌≡◌, ℕ, zero, suc, ◌+◌, ◌-◌, ◌<◌, ◌≤◌, ◌⊎◌, inl, inr, ◌==◌, nat_eq, Bool, true, false, cond, List, [], ◌∷◌, ◌++◌, length, drop, Option, Some, None, refl, sym, ap, subst, ◌∙◌, arith, append_assoc}
+use Rattle.std.specs.Prelude.{slice_get, slice_set, is_some, nat_lt, if◌then◌else◌}
 use Rattle.std.proofs.lemmas.List.{append-nil}
 use Rattle.std.specs.List.{IsDistinct, AllByRecursion}
-use Rattle.std.specs.List.Sorted.{IsPermutation}
+use Rattle.std.specs.BTreeMap.{BTreeMap}
 use Rattle.std.proofs.lemmas.Bool.Decides.{nat_tests}
 use Rattle.std.proofs.lemmas.Cmp.{nat_eq_equiv}
 use Rattle.std.proofs.lemmas.List.Folds.{list_any-append}
-use Rattle.std.proofs.lemmas.List.Sorted.{IsPermutation-trans, IsPermutation-append_left, IsPermutation-append_right}
 use Rattle.std.proofs.lemmas.Map.Keys.{IsDistinct-push}
 use Rattle.std.proofs.lemmas.Option.{slice_get_within}
 use Rattle.entity_types.specs.declared.entity.Entity.{Entity}
 use Rattle.project_store.specs.declared.places.Place.{Place}
 use Rattle.project_store.specs.Entities.{numbers_of, entity_at}
 use Rattle.project_store.specs.Inserts.{is_among, insert_number, insert_all}
-use Rattle.project_store.specs.Places.{places_from, number_places, AreOrdered, IsIndex, IsAt}
+use Rattle.project_store.specs.Places.{IsIndex, IsAt, Leads, AreKept, AreNoted}
 use Rattle.project_store.specs.Put.{put, put_all, put_in, put_items}
 use Rattle.project_store.proofs.PlaceLemmas.{at_found, at_one_place, found_nowhere, other_number}
 
@@ -209,38 +208,6 @@ new_number store put x news none h =
 
 -- ---- the places
 
-length_numbers : (es : List Entity) → length (numbers_of es) ≡ length es
-length_numbers [] = refl
-length_numbers (e ∷ es) = ap suc (length_numbers es)
-
-places_by_number : (i : ℕ) (es : List Entity) → number_places i (numbers_of es) ≡ places_from i es
-places_by_number i [] = refl
-places_by_number i (e ∷ es) = ap (λ (ps : List Place). record { number = e.number; index = i } ∷ ps) (places_by_number (suc i) es)
-
-number_places-append : (i : ℕ) (ms ns : List ℕ) → number_places i (ms ++ ns) ≡ number_places i ms ++ number_places (i + length ms) ns
-number_places-append i [] ns = ap (λ (k : ℕ). number_places k ns) (omega arith)
-number_places-append i (m ∷ ms) ns =
-    let more : suc i + length ms ≡ i + suc (length ms) = omega arith in
-    ap (λ (ps : List Place). record { number = m; index = i } ∷ ps) (number_places-append (suc i) ms ns ∙ ap (λ (k : ℕ). number_places (suc i) ms ++ number_places k ns) more)
-
-numbers-drop : (k : ℕ) (es : List Entity) → numbers_of (drop k es) ≡ drop k (numbers_of es)
-numbers-drop zero es = refl
-numbers-drop (suc k) [] = refl
-numbers-drop (suc k) (e ∷ es) = numbers-drop k es
-
-drop_first : (ms ns : List ℕ) → drop (length ms) (ms ++ ns) ≡ ns
-drop_first [] ns = refl
-drop_first (m ∷ ms) ns = drop_first ms ns
-
--- the numbers behind the store's
-pub numbers_behind : (store put : List Entity) (news : List ℕ) → numbers_of put ≡ numbers_of store ++ news → numbers_of (drop (length store) put) ≡ news
-numbers_behind store put news h =
-    numbers-drop (length store) put ∙ ap (drop (length store)) h ∙ ap (λ (k : ℕ). drop k (numbers_of store ++ news)) (sym (length_numbers store)) ∙ drop_first (numbers_of store) news
-
--- the places of what comes new, by its numbers
-pub places_behind : (store put : List Entity) (news : List ℕ) → numbers_of put ≡ numbers_of store ++ news → number_places (length store) news ≡ places_from (length store) (drop (length store) put)
-places_behind store put news h = ap (number_places (length store)) (sym (numbers_behind store put news h)) ∙ places_by_number (length store) (drop (length store) put)
-
 inserted_behind : (ns ms : List ℕ) → (news : List ℕ) × (insert_all ns ms ≡ ns ++ news)
 inserted_behind ns [] = ([], sym (append-nil ns))
 inserted_behind ns (m ∷ ms) = go (is_among ns m) (inserted_behind ns ms) (inserted_behind (ns ++ m ∷ []) ms)
@@ -256,26 +223,68 @@ distinct_before es items d =
     let all = inserted_behind (numbers_of es) (numbers_of items) in
     behind_distinct (numbers_of es) all.0 (subst (IsDistinct nat_eq) (numbers-put_items es items ∙ all.1) d)
 
-places_put : (store items : List Entity) → places_from 0 (put_items store items) ≡ places_from 0 store ++ places_from (length store) (drop (length store) (put_items store items))
-places_put store items =
-    let all = inserted_behind (numbers_of store) (numbers_of items) in
-    let h : numbers_of (put_items store items) ≡ numbers_of store ++ all.0 = numbers-put_items store items ∙ all.1 in
-    sym (places_by_number 0 (put_items store items)) ∙ ap (number_places 0) h ∙ number_places-append 0 (numbers_of store) all.0
-    ∙ ap (λ (ps : List Place). ps ++ number_places (0 + length (numbers_of store)) all.0) (places_by_number 0 store)
-    ∙ ap (λ (k : ℕ). places_from 0 store ++ number_places k all.0) (let e : 0 + length (numbers_of store) ≡ length store = omega (arith, length_numbers store) in e)
-    ∙ ap (λ (ps : List Place). places_from 0 store ++ ps) (places_behind store (put_items store items) all.0 h)
+-- what comes new stands behind the others, where it stands among what comes new
+got_number : (es : List Entity) (n i : ℕ) → IsAt es n i → slice_get (numbers_of es) i ≡ Some n
+got_number [] n i at = absurd (let h : None ≡ Some at.0 = at.1 in cc)
+got_number (e ∷ es) n zero at = let same : e ≡ at.0 = let h : Some e ≡ Some at.0 = at.1 in cc in ap Some (ap (λ (y : Entity). y.number) same ∙ at.2)
+got_number (e ∷ es) n (suc i) at = got_number es n i at
 
--- the places of a store with items put
-pub index_put : (opening added more : List Place) (store items : List Entity) → IsIndex opening added store → AreOrdered more
-    → IsPermutation (added ++ places_from (length store) (drop (length store) (put_items store items))) more → IsIndex opening more (put_items store items)
-index_put opening added more store items index ordered perm =
-    let behind : List Place = places_from (length store) (drop (length store) (put_items store items)) in
-    let first : IsPermutation (places_from 0 store ++ behind) ((opening ++ added) ++ behind) = IsPermutation-append_left behind (places_from 0 store) (opening ++ added) index.all in
-    let second : IsPermutation (opening ++ (added ++ behind)) (opening ++ more) = IsPermutation-append_right opening (added ++ behind) more perm in
-    let third : IsPermutation (places_from 0 store ++ behind) (opening ++ (added ++ behind)) = subst (IsPermutation (places_from 0 store ++ behind)) (append_assoc opening added behind) first in
-    record {
-      ordered = index.ordered;
-      added_ordered = ordered;
-      all = rw (places_put store items) (IsPermutation-trans (places_from 0 store ++ behind) (opening ++ (added ++ behind)) (opening ++ more) third second);
-      distinct = distinct_put store items index.distinct;
-    }
+got_behind : (es : List Entity) (ns : List ℕ) (i : ℕ) → length es ≤ i → slice_get (numbers_of es ++ ns) i ≡ slice_get ns (i - length es)
+got_behind [] ns i le = ap (slice_get ns) (omega arith)
+got_behind (e ∷ es) ns zero le = absurd (omega (arith, le))
+got_behind (e ∷ es) ns (suc i) le = got_behind es ns i (omega (arith, le)) ∙ ap (slice_get ns) (omega arith)
+
+number_behind : (es put : List Entity) (news : List ℕ) (n i : ℕ) → numbers_of put ≡ numbers_of es ++ news → IsAt put n i → length es ≤ i → slice_get news (i - length es) ≡ Some n
+number_behind es put news n i h at le = sym (got_behind es news i le) ∙ ap (λ (ns : List ℕ). slice_get ns i) (sym h) ∙ got_number put n i at
+
+none_among : (n : ℕ) (ms : List ℕ) → AllByRecursion (λ m. nat_eq n m ≡ false) ms → is_among ms n ≡ false
+none_among n [] all = refl
+none_among n (m ∷ ms) all = rw (all.0) (none_among n ms all.1)
+
+rest_all : (n : ℕ) (es : List Entity) (ns : List ℕ) → AllByRecursion (λ m. nat_eq n m ≡ false) (numbers_of es ++ ns) → AllByRecursion (λ m. nat_eq n m ≡ false) ns
+rest_all n [] ns all = all
+rest_all n (e ∷ es) ns all = rest_all n es ns all.1
+
+-- a number that is there is none of those that come new
+not_new : (es : List Entity) (news : List ℕ) (n i : ℕ) → IsDistinct nat_eq (numbers_of es ++ news) → IsAt es n i → is_among news n ≡ false
+unfolding IsDistinct
+not_new [] news n i d at = absurd (let h : None ≡ Some at.0 = at.1 in cc)
+not_new (e ∷ es) news n zero d at =
+    let same : e ≡ at.0 = let h : Some e ≡ Some at.0 = at.1 in cc in
+    let number : e.number ≡ n = ap (λ (y : Entity). y.number) same ∙ at.2 in
+    subst (λ (m : ℕ). is_among news m ≡ false) number (none_among e.number news (rest_all e.number es news d.0))
+not_new (e ∷ es) news n (suc i) d at = not_new es news n i d.1 at
+
+-- the numbers that come new are distinct
+pub new_distinct : (ms ns : List ℕ) → IsDistinct nat_eq (ms ++ ns) → IsDistinct nat_eq ns
+unfolding IsDistinct
+new_distinct [] ns d = d
+new_distinct (m ∷ ms) ns d = new_distinct ms ns d.1
+
+below_or_not : (i n : ℕ) → (i < n) ⊎ (n ≤ i)
+below_or_not i n = go (nat_lt i n) refl
+  where
+    go : (b : Bool) → nat_lt i n ≡ b → (i < n) ⊎ (n ≤ i)
+    go true e = inl (grind (arith, nat_tests))
+    go false e = inr (grind (arith, nat_tests))
+
+module _ (opening : List Place) (old new : BTreeMap ℕ ℕ) (es : List Entity) (news : List ℕ) (index : IsIndex opening old es) (distinct : IsDistinct nat_eq (numbers_of es ++ news))
+    (kept : AreKept old new news) where
+  still : (n i : ℕ) → IsAt es n i → Leads opening new n i
+  still n i at = elim (index.complete n i at) [ inl has ↦ inl has | inr got ↦ inr (kept n (not_new es news n i distinct at) ∙ got) ]
+
+  -- the index of the entities as they are, where places of others are noted
+  pub index_noted : IsIndex opening new es
+  index_noted = record { ordered = index.ordered; sound = index.sound; complete = still; distinct = index.distinct }
+
+  -- and with the items put
+  pub index_put : (items : List Entity) → numbers_of (put_items es items) ≡ numbers_of es ++ news → AreNoted new (length es) news → IsIndex opening new (put_items es items)
+  index_put items h noted = record {
+    ordered = index.ordered;
+    sound = λ n i has. at_put es items n i (index.sound n i has);
+    complete = λ n i at. elim (below_or_not i (length es)) [
+      | inl lt ↦ still n i (stood_there es items n i at lt)
+      | inr le ↦ inr (noted (i - length es) n (number_behind es (put_items es items) news n i h at le) ∙ ap Some (omega (arith, le)))
+    ];
+    distinct = distinct_put es items index.distinct;
+  }

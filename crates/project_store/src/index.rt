@@ -8,20 +8,22 @@ ghost use Rattle.project_store.specs.Places.{IsAt};
 ghost use Rattle.project_store.specs.Put.{put_items};
 
 use crate::places::{Place, index_among, ordered_places};
-use crate::putting::{added_with, put_each, reversed};
+use crate::putting::{new_numbers, note_places, put_each, reversed};
 use entity_types::{Entity, EntityList};
 use nc_base::{NoMemory, Number};
 use std::alloc::Global;
+use std::collections::BTreeMap;
 use std::marker::Model;
 
 /// Entities of distinct numbers. Contracts see the list of them. Beside them stand their places in order of number: no hash of
-/// numbers, which a file picks, so that no file can have them collide. The places of entities that were added later stand in a list
-/// of their own, so that adding more never takes a pass over all.
+/// numbers, which a file picks, so that no file can have them collide. The places of entities that were added later stand in a tree
+/// of their own, so that adding more takes no pass over all, whatever their numbers are. Where memory ran out while entities were to be
+/// added the tree keeps places that no entity took, so that a place of it counts only where an entity of its number stands.
 #[derive(Drop)]
 pub struct Index {
     entities: Vec<Entity>,
     opening: Vec<Place>,
-    added: Vec<Place>,
+    added: BTreeMap<Number, usize>,
 }
 
 impl Model for Index {
@@ -33,7 +35,7 @@ impl Model for Index {
 
     ghost view = { λ a. a.entities.items };
 
-    ghost invariant = { λ a. IsIndex a.opening.items a.added.items a.entities.items };
+    ghost invariant = { λ a. IsIndex a.opening.items a.added a.entities.items };
 }
 
 impl Index {
@@ -46,7 +48,7 @@ impl Index {
         Ok(Index {
             entities,
             opening,
-            added: Vec::new(alloc),
+            added: BTreeMap::new(alloc),
         })
     }
 
@@ -104,14 +106,24 @@ impl Index {
         ensures found { (i : ℕ) → (result ≡ Some i) ↔ IsAt self.now n i }
         ensures none { (result ≡ None) ↔ (entity_at self.now n ≡ None) }
     {
-        index_among(self.opening.as_slice(), self.added.as_slice(), n)
+        index_among(
+            self.entities.as_slice(),
+            self.opening.as_slice(),
+            &self.added,
+            n,
+        )
     }
 
     /// The entity of this number.
     pub fn get(&self, n: Number) -> Option<&Entity>
         ensures { option_copied result ≡ entity_at self.now n }
     {
-        match index_among(self.opening.as_slice(), self.added.as_slice(), n) {
+        match index_among(
+            self.entities.as_slice(),
+            self.opening.as_slice(),
+            &self.added,
+            n,
+        ) {
             Some(i) => Some(&self.entities[i]),
             None => None,
         }
@@ -133,8 +145,9 @@ impl Index {
         ensures given_back { IfErr result (λ list. list ≡ items) }
         ensures distinct { IsDistinct nat_eq (numbers_of self.old) }
     {
+        let first = self.len();
         let alloc = *self.entities.allocator();
-        let Ok(added) = added_with(alloc, self, self.added.as_slice(), items.as_slice()) else {
+        let Ok(numbers) = new_numbers(alloc, self, items.as_slice()) else {
             return Err(items);
         };
         let Ok(room) = Vec::with_capacity(alloc, items.len() as usize) else {
@@ -143,14 +156,16 @@ impl Index {
         if self.entities.reserve(items.len() as usize).is_err() {
             return Err(items);
         }
+        let Ok(()) = note_places(&mut self.added, first, numbers.as_slice()) else {
+            return Err(items);
+        };
         let left = reversed(items, room);
         put_each(
             &mut self.entities,
             self.opening.as_slice(),
-            added.as_slice(),
+            &self.added,
             left,
         );
-        self.added = added;
         Ok(())
     }
 }

@@ -1,14 +1,17 @@
 //! Where the entity of a number stands in a list.
 
-ghost use Rattle.std.specs.Prelude.{◌≡◌, ◌+◌, ◌^◌, ◌<◌, ◌≤◌, ◌++◌, length, IsTrue, IfOk, IfSome, IfNone, Contains};
+ghost use Rattle.std.specs.Prelude.{◌≡◌, ◌⊎◌, ◌≤◌, ℕ, Some, length, IsTrue, IfOk, IfSome, IfNone, Contains};
 ghost use Rattle.std.specs.List.{AllAdjacentBelow};
 ghost use Rattle.std.specs.List.Sorted.{IsPermutation};
+ghost use Rattle.std.specs.Ordering.{nat_cmp};
+ghost use Rattle.std.specs.BTreeMap.{get};
 ghost use Rattle.project_store.specs.declared.places.Place.{Place};
-ghost use Rattle.project_store.specs.Places.{place_at, places_from, number_places, AreOrdered};
+ghost use Rattle.project_store.specs.Places.{place_at, places_from, AreOrdered, IsAt, Leads};
 
 use entity_types::Entity;
 use nc_base::{NoMemory, Number};
 use std::alloc::Global;
+use std::collections::BTreeMap;
 
 /// The index in a list at which the entity of a number stands.
 #[derive(Clone, Copy)]
@@ -82,39 +85,30 @@ pub(crate) fn index_of(places: &[Place], n: Number) -> Option<usize>
     }
 }
 
-/// The index of the entity of this number, by two lists of places, each in order of number.
-pub(crate) fn index_among(opening: &[Place], added: &[Place], n: Number) -> Option<usize>
-    requires opening { AreOrdered opening.now }
-    requires added { AreOrdered added.now }
-    ensures found { IfSome result (λ index. Contains (opening.now ++ added.now) (place_at n index)) }
-    ensures none { IfNone result ((place : Place) → Contains (opening.now ++ added.now) place → place.number ≡ n → ⊥) }
+/// The index of the entity of this number, by places of which those count where an entity of their number stands.
+fn index_of_added(entities: &[Entity], added: &BTreeMap<Number, usize>, n: Number) -> Option<usize>
+    ensures found { IfSome result (IsAt entities.now n) }
+    ensures none { IfNone result ((i : ℕ) → get nat_cmp added.now n ≡ Some i → IsAt entities.now n i → ⊥) }
 {
-    match index_of(opening, n) {
-        Some(index) => Some(index),
-        None => index_of(added, n),
+    match added.get(&n) {
+        Some(i) if *i < entities.len() && entities[*i].number == n => Some(*i),
+        _ => None,
     }
 }
 
-/// These places, and those of further numbers of which the first stands at index `first`, all in order of number.
-pub(crate) fn places_with(
-    alloc: Global,
-    places: &[Place],
-    first: usize,
-    numbers: &[Number],
-) -> Result<Vec<Place>, NoMemory>
-    requires { first + length numbers.now < 2 ^ 64 }
-    ensures ordered { IfOk result (λ all. AreOrdered all.items) }
-    ensures all { IfOk result (λ all. IsPermutation (places.now ++ number_places first numbers.now) all.items) }
+/// The index of the entity of this number, by the places of the first ones in order of number, and by those that were added.
+pub(crate) fn index_among(
+    entities: &[Entity],
+    opening: &[Place],
+    added: &BTreeMap<Number, usize>,
+    n: Number,
+) -> Option<usize>
+    requires { AreOrdered opening.now }
+    ensures found { IfSome result (λ i. Contains opening.now (place_at n i) ⊎ IsAt entities.now n i) }
+    ensures none { IfNone result ((i : ℕ) → Leads opening.now added.now n i → IsAt entities.now n i → ⊥) }
 {
-    let mut all = Vec::with_capacity(alloc, places.len() + numbers.len())?;
-    all.extend_from_slice(places)?;
-    for (behind, number) in numbers.iter().enumerate() {
-        all.push(Place {
-            number: *number,
-            index: first + behind,
-        })?;
+    match index_of(opening, n) {
+        Some(index) => Some(index),
+        None => index_of_added(entities, added, n),
     }
-    // The first run is in order already, so that this takes one pass over it.
-    all.sort_by_key(|place| place.number)?;
-    Ok(all)
 }

@@ -1,20 +1,25 @@
 //! Items put into entities.
 
-ghost use Rattle.std.specs.Prelude.{◌≡◌, ◌+◌, ◌≤◌, ◌++◌, [], length, drop, reverse, vec_len, vec_capacity, IfOk};
-ghost use Rattle.std.specs.List.Sorted.{IsPermutation};
+ghost use Rattle.std.specs.Prelude.{◌≡◌, ◌+◌, ◌<◌, ◌≤◌, ◌^◌, ◌++◌, [], nat_eq, length, reverse, vec_len, vec_capacity, IfOk, OnOk};
+ghost use Rattle.std.specs.List.{IsDistinct};
 ghost use Rattle.project_store.specs.Entities.{numbers_of};
-ghost use Rattle.project_store.specs.Places.{places_from, AreOrdered, IsIndex};
+ghost use Rattle.project_store.specs.Places.{IsIndex, AreKept, AreNoted};
 ghost use Rattle.project_store.specs.Put.{put_items};
 
 use crate::gathered::Gathered;
 use crate::index::Index;
-use crate::places::{Place, index_among, places_with};
+use crate::places::{Place, index_among};
 use entity_types::{Entity, EntityList};
 use nc_base::{NoMemory, Number};
 use std::alloc::Global;
+use std::collections::BTreeMap;
 
 /// The numbers of items that no entity has, each once, in the order in which they first come.
-fn new_numbers(alloc: Global, index: &Index, items: &[Entity]) -> Result<Vec<Number>, NoMemory>
+pub(crate) fn new_numbers(
+    alloc: Global,
+    index: &Index,
+    items: &[Entity],
+) -> Result<Vec<Number>, NoMemory>
     ensures { IfOk result (λ numbers. numbers_of (put_items index.now items.now) ≡ numbers_of index.now ++ numbers.items) }
 {
     let mut numbers = Gathered::new(alloc);
@@ -26,19 +31,22 @@ fn new_numbers(alloc: Global, index: &Index, items: &[Entity]) -> Result<Vec<Num
     Ok(numbers.order)
 }
 
-/// These places, and those of the entities that come behind the others once the items are put.
-pub(crate) fn added_with(
-    alloc: Global,
-    index: &Index,
-    added: &[Place],
-    items: &[Entity],
-) -> Result<Vec<Place>, NoMemory>
-    ensures ordered { IfOk result (λ all. AreOrdered all.items) }
-    ensures all { let behind = drop (length index.now) (put_items index.now items.now) in
-        IfOk result (λ all. IsPermutation (added.now ++ places_from (length index.now) behind) all.items) }
+/// Keeps where the entities of further numbers are to stand, of which the first comes at index `first`. Where memory runs out that of some
+/// is kept.
+pub(crate) fn note_places(
+    added: &mut BTreeMap<Number, usize>,
+    first: usize,
+    numbers: &[Number],
+) -> Result<(), NoMemory>
+    requires fits { first + length numbers.now < 2 ^ 64 }
+    requires distinct { IsDistinct nat_eq numbers.now }
+    ensures kept { AreKept added.old added.new numbers.now }
+    ensures noted { OnOk result (AreNoted added.new first numbers.now) }
 {
-    let numbers = new_numbers(alloc, index, items)?;
-    places_with(alloc, added, index.len(), numbers.as_slice())
+    for (behind, number) in numbers.iter().enumerate() {
+        added.insert(*number, first + behind)?;
+    }
+    Ok(())
 }
 
 /// The items from the last to the first, so that they can be taken in their order. There is room for them.
@@ -57,7 +65,7 @@ pub(crate) fn reversed(mut items: EntityList, mut room: Vec<Entity>) -> Vec<Enti
 pub(crate) fn put_each(
     entities: &mut Vec<Entity>,
     opening: &[Place],
-    added: &[Place],
+    added: &BTreeMap<Number, usize>,
     mut left: Vec<Entity>,
 )
     requires index { IsIndex opening.now added.now (put_items entities.old.items (reverse left.items)) }
@@ -65,7 +73,7 @@ pub(crate) fn put_each(
     ensures { entities.new.items ≡ put_items entities.old.items (reverse left.items) }
 {
     while let Some(item) = left.pop() {
-        match index_among(opening, added, item.number) {
+        match index_among(entities.as_slice(), opening, added, item.number) {
             Some(i) if i < entities.len() => entities[i] = item,
             _ => entities.push_reserved(item),
         }

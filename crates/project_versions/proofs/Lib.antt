@@ -3,6 +3,7 @@ pub mod VersionLemmas
 pub mod UnreachedLemmas
 pub mod StepLemmas
 pub mod UserLemmas
+pub mod UnlinkLemmas
 pub mod GrownLemmas
 pub mod BackwardLemmas
 pub mod RaisingLemmas

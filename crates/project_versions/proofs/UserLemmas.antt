@@ -34,7 +34,7 @@ got_cases [] x y (suc k) h = absurd cc
 got_cases (z ∷ xs) x y zero h = inl h
 got_cases (z ∷ xs) x y (suc k) h = elim (got_cases xs x y k h) [ inl old ↦ inl old | inr new ↦ inr (ap suc new.0, new.1) ]
 
-same_or_not : (i j : ℕ) → (i ≡ j) ⊎ (i ≡ j → ⊥)
+pub same_or_not : (i j : ℕ) → (i ≡ j) ⊎ (i ≡ j → ⊥)
 same_or_not i j = go (eqb i j) refl
   where
     go : (b : Bool) → eqb i j ≡ b → (i ≡ j) ⊎ (i ≡ j → ⊥)

@@ -67,6 +67,18 @@ pub record Links (store : List Entity) (old new : Rows) (p : ℕ) (us : List ℕ
   pub own : (before : List ℕ) → RowIsRight store old p before → RowIsRight store new p (before ++ us)
   pub others : (q : ℕ) (used : List ℕ) → (q ≡ p → ⊥) → RowIsRight store old q used → RowIsRight store new q used
 
+-- the edge at index k is in its row no more
+abbrev pub IsGone : Rows → ℕ → Type 0
+IsGone rows k = (edge : Edge) × (slice_get rows.edges k ≡ Some edge) × (k < slice_index_or rows.since edge.user 0)
+
+-- the same rows: each that was right is so still
+pub record Spares (store : List Entity) (old new : Rows) : Type 0 where
+  pub linked : AreLinked (length store) new
+  pub heads : length new.heads ≡ length old.heads
+  pub since : new.since ≡ old.since
+  pub edges : length new.edges ≡ length old.edges
+  pub rows : (q : ℕ) (us : List ℕ) → RowIsRight store old q us → RowIsRight store new q us
+
 -- the same rows, but that of the entity at index p has edges for these numbers alone
 pub record SetsRow (store : List Entity) (old new : Rows) (p : ℕ) (us : List ℕ) : Type 0 where
   pub linked : AreLinked (length store) new

@@ -1,12 +1,14 @@
 //! The index of direct users: what refers to an entity.
 //!
-//! Each reference is an edge: who refers, and the link to the next edge of what is referred to. When an entity is put its row begins
-//! anew: its older edges are passed over from then on, and its present references are linked. So putting items costs what they refer
-//! to, and no list of a much used entity is searched for users that are gone.
+//! Each reference is an edge: who refers, and the link to the next edge of what is referred to. An entity that names another one many
+//! times is linked to it once. When an entity is put its row begins anew: its older edges count no more and are taken out of their lists,
+//! and its present references are linked. So putting items costs what they refer to and what they referred to before, and no list is
+//! searched for users that are gone. An edge that counts no more would be passed over where it is still linked, so that what an edge is
+//! linked from need only be a hint.
 
-ghost use Rattle.std.specs.Prelude.{◌≡◌, ◌+◌, ◌<◌, ◌≤◌, [], ◌∷◌, length, replicate, vec_len, vec_capacity, IfOk, IfSome, OnOk};
+ghost use Rattle.std.specs.Prelude.{◌≡◌, ◌+◌, ◌<◌, ◌≤◌, ℕ, [], ◌∷◌, length, replicate, vec_len, vec_capacity, IfOk, IfSome, IsTrue, OnOk};
 ghost use Rattle.entity_types.specs.Entity.{uses_of};
-ghost use Rattle.project_versions.specs.Users.{rows_of, AreLinked, HasRows, IsUserIndex, Links, SetsRow, PutsRows, with_edge, uses_count};
+ghost use Rattle.project_versions.specs.Users.{rows_of, AreLinked, HasRows, IsEdge, IsGone, IsUserIndex, Links, Spares, SetsRow, PutsRows, with_edge, uses_count};
 
 use entity_types::Entity;
 use nc_base::{NoMemory, Number};
@@ -21,12 +23,41 @@ pub(crate) struct Edge {
     pub(crate) next: usize,
 }
 
-/// For each entity of a store, by its index there, the link to its newest edge, and how many edges there were when its own row began.
+/// What an edge is linked from: the head of the entity at an index, or the newer edge at an index.
+#[derive(Clone, Copy)]
+pub(crate) enum Origin {
+    Head(usize),
+    Newer(usize),
+}
+
+/// For each entity of a store, by its index there, the link to its newest edge, and how many edges there were when its own row began;
+/// and for each edge what it is linked from.
 #[derive(Drop)]
 pub(crate) struct Users {
     pub(crate) heads: Vec<usize>,
     pub(crate) since: Vec<usize>,
     pub(crate) edges: Vec<Edge>,
+    origins: Vec<Origin>,
+}
+
+/// Keeps what the edge of a link is linked from.
+fn note_origin(origins: &mut Vec<Origin>, link: usize, origin: Origin)
+    ensures { length origins.new.items ≡ length origins.old.items }
+{
+    if link > 0 && link <= origins.len() {
+        origins[link - 1] = origin;
+    }
+}
+
+/// Keeps that one edge more, at index `k`, is linked from the head of an entity, and the one that it links to from this one. There is room
+/// for it.
+fn note_edge(origins: &mut Vec<Origin>, place: usize, k: usize, next: usize)
+    ensures { length origins.old.items ≤ length origins.new.items }
+{
+    if origins.len() < origins.capacity() {
+        origins.push_reserved(Origin::Head(place));
+    }
+    note_origin(origins, next, Origin::Newer(k));
 }
 
 /// So many zeros.
@@ -73,6 +104,7 @@ impl Users {
             heads: zeros(alloc, count)?,
             since: zeros(alloc, count)?,
             edges: Vec::new(alloc),
+            origins: Vec::new(alloc),
         };
         let all = store.as_slice();
         users.reserve(all)?;
@@ -88,6 +120,7 @@ impl Users {
         let Some(count) = references_in(items) else {
             return Err(NoMemory);
         };
+        self.origins.reserve(count)?;
         self.edges.reserve(count)?;
         Ok(())
     }
@@ -104,11 +137,28 @@ impl Users {
             user,
             next: self.heads[place],
         };
+        note_edge(&mut self.origins, place, self.edges.len(), edge.next);
         self.heads[place] = self.edges.len() + 1;
         self.edges.push_reserved(edge);
     }
 
-    /// An edge more, where the reference leads to an entity of the store.
+    /// Whether the newest edge of an entity is of this user and counts. All edges of a user's row are made one after another, so that where
+    /// this isn't so the row has no edge there.
+    fn is_linked(&self, store: &Store, place: usize, user: usize) -> bool
+        requires linked { AreLinked (length store.now) (rows_of self.now) }
+        requires place { place < length self.now.heads.items }
+        requires user { user < length self.now.since.items }
+        ensures { IsTrue result → (k : ℕ) × IsEdge (rows_of self.now) user place k }
+    {
+        let link = self.heads[place];
+        if link == 0 {
+            return false;
+        }
+        let edge = self.edges[link - 1];
+        edge.user == user && self.since[user] < link
+    }
+
+    /// An edge more, where the reference leads to an entity of the store and the user isn't linked to it yet.
     fn link_to(&mut self, store: &Store, user: usize, reference: Number)
         requires linked { AreLinked (length store.now) (rows_of self.old) }
         requires rows { HasRows (length store.now) (rows_of self.old) }
@@ -119,7 +169,9 @@ impl Users {
         ensures capacity { vec_capacity self.new.edges ≡ vec_capacity self.old.edges }
     {
         if let Some(place) = store.place_of(reference) {
-            self.link(place, user);
+            if !self.is_linked(store, place, user) {
+                self.link(place, user);
+            }
         }
     }
 
@@ -153,6 +205,71 @@ impl Users {
         }
     }
 
+    /// Takes the edge at index `k`, which counts no more, out of its list, where the head of an entity links to it.
+    fn unlink_first(&mut self, store: &Store, k: usize, place: usize)
+        requires linked { AreLinked (length store.now) (rows_of self.old) }
+        requires gone { IsGone (rows_of self.old) k }
+        ensures spares { Spares store.now (rows_of self.old) (rows_of self.new) }
+        ensures edges { self.new.edges ≡ self.old.edges }
+    {
+        if place < self.heads.len() && self.heads[place] > k && self.heads[place] - 1 == k {
+            self.heads[place] = self.edges[k].next;
+        }
+    }
+
+    /// Takes the edge at index `k`, which counts no more, out of its list, where the edge at index `newer` links to it.
+    fn unlink_behind(&mut self, store: &Store, k: usize, newer: usize)
+        requires linked { AreLinked (length store.now) (rows_of self.old) }
+        requires gone { IsGone (rows_of self.old) k }
+        ensures spares { Spares store.now (rows_of self.old) (rows_of self.new) }
+        ensures len { vec_len self.new.edges ≡ vec_len self.old.edges }
+        ensures capacity { vec_capacity self.new.edges ≡ vec_capacity self.old.edges }
+    {
+        if newer < self.edges.len()
+            && self.edges[newer].next > k
+            && self.edges[newer].next - 1 == k
+        {
+            self.edges[newer] = Edge {
+                user: self.edges[newer].user,
+                next: self.edges[k].next,
+            };
+        }
+    }
+
+    /// Takes the edge at index `k`, which counts no more, out of its list.
+    fn unlink(&mut self, store: &Store, k: usize)
+        requires linked { AreLinked (length store.now) (rows_of self.old) }
+        requires gone { IsGone (rows_of self.old) k }
+        ensures spares { Spares store.now (rows_of self.old) (rows_of self.new) }
+        ensures len { vec_len self.new.edges ≡ vec_len self.old.edges }
+        ensures capacity { vec_capacity self.new.edges ≡ vec_capacity self.old.edges }
+    {
+        if k >= self.origins.len() {
+            return;
+        }
+        let origin = self.origins[k];
+        note_origin(&mut self.origins, self.edges[k].next, origin);
+        match origin {
+            Origin::Head(place) => self.unlink_first(store, k, place),
+            Origin::Newer(newer) => self.unlink_behind(store, k, newer),
+        }
+    }
+
+    /// Takes the edges of the entity at index `place`, of which the first stood at index `first` and none counts any more, out of their lists.
+    fn unlink_row(&mut self, store: &Store, place: usize, first: usize)
+        requires linked { AreLinked (length store.now) (rows_of self.old) }
+        requires place { place < length self.old.since.items }
+        ensures spares { Spares store.now (rows_of self.old) (rows_of self.new) }
+        ensures len { vec_len self.new.edges ≡ vec_len self.old.edges }
+        ensures capacity { vec_capacity self.new.edges ≡ vec_capacity self.old.edges }
+    {
+        let mut k = first;
+        while k < self.since[place] && self.edges[k].user == place {
+            self.unlink(store, k);
+            k += 1;
+        }
+    }
+
     /// Sets the row of the entity at index `place`: its older edges count no more.
     fn set_row(&mut self, store: &Store, place: usize, entity: &Entity)
         requires linked { AreLinked (length store.now) (rows_of self.old) }
@@ -163,7 +280,9 @@ impl Users {
         ensures len { vec_len self.new.edges ≤ vec_len self.old.edges + length (uses_of entity.now) }
         ensures capacity { vec_capacity self.new.edges ≡ vec_capacity self.old.edges }
     {
+        let first = self.since[place];
         self.since[place] = self.edges.len();
+        self.unlink_row(store, place, first);
         self.link_uses(store, place, entity);
     }
 

@@ -1,20 +1,22 @@
-use Rattle.std.proofs.Common.{◌≡◌, ℕ, ◌++◌, List, Option, Some, None, inl, inr, IfSome, IfNone, Contains}
-use Rattle.std.proofs.lemmas.List.Elements.{Contains-append_right, Contains-append_cases}
+use Rattle.std.proofs.Common.{◌≡◌, ◌⊎◌, ℕ, List, Option, Some, None, inl, inr, refl, IfSome, IfNone, Contains}
+use Rattle.std.specs.BTreeMap.{BTreeMap, get}
+use Rattle.std.specs.Ordering.{nat_cmp}
+use Rattle.entity_types.specs.declared.entity.Entity.{Entity}
 use Rattle.project_store.specs.declared.places.Place.{Place}
-use Rattle.project_store.specs.Places.{place_at}
+use Rattle.project_store.specs.Places.{place_at, IsAt, Leads}
 use Rattle.project_store.proofs.places.index_among.Goals as goal
 
-behind : (opening added : List Place) (n : ℕ) (o : Option ℕ) → IfSome o (λ i. Contains added (place_at n i)) → IfSome o (λ i. Contains (opening ++ added) (place_at n i))
-behind opening added n None h = tt
-behind opening added n (Some i) h = Contains-append_right opening added (place_at n i) h
+behind : (opening : List Place) (es : List Entity) (n : ℕ) (o : Option ℕ) → IfSome o (IsAt es n) → IfSome o (λ i. Contains opening (place_at n i) ⊎ IsAt es n i)
+behind opening es n None h = tt
+behind opening es n (Some i) h = inr h
 
 pub returns-in-None-clause-found : goal.returns-in-None-clause-found
-returns-in-None-clause-found c = behind c.args.opening.now c.args.added.now c.args.n c.index_of-in-None.result c.index_of-in-None.ensures.found
+returns-in-None-clause-found c = behind c.args.opening.now c.args.entities.now c.args.n c.index_of_added.result c.index_of_added.ensures.found
 
-nowhere : (opening added : List Place) (n : ℕ) (o : Option ℕ) → ((p : Place) → Contains opening p → p.number ≡ n → ⊥) → IfNone o ((p : Place) → Contains added p → p.number ≡ n → ⊥)
-    → IfNone o ((p : Place) → Contains (opening ++ added) p → p.number ≡ n → ⊥)
-nowhere opening added n (Some i) never more = tt
-nowhere opening added n None never more = λ p c e. elim (Contains-append_cases opening added p c) [ inl here ↦ never p here e | inr there ↦ more p there e ]
+nowhere : (opening : List Place) (added : BTreeMap ℕ ℕ) (es : List Entity) (n : ℕ) (o : Option ℕ) → ((p : Place) → Contains opening p → p.number ≡ n → ⊥)
+    → IfNone o ((i : ℕ) → get nat_cmp added n ≡ Some i → IsAt es n i → ⊥) → IfNone o ((i : ℕ) → Leads opening added n i → IsAt es n i → ⊥)
+nowhere opening added es n (Some i) never none = tt
+nowhere opening added es n None never none = λ i leads at. elim leads [ inl has ↦ never (place_at n i) has refl | inr got ↦ none i got at ]
 
 pub returns-in-None-clause-none : goal.returns-in-None-clause-none
-returns-in-None-clause-none c = nowhere c.args.opening.now c.args.added.now c.args.n c.index_of-in-None.result c.in-None.ensures.none c.index_of-in-None.ensures.none
+returns-in-None-clause-none c = nowhere c.args.opening.now c.args.added.now c.args.entities.now c.args.n c.index_of_added.result c.in-None.ensures.none c.index_of_added.ensures.none
