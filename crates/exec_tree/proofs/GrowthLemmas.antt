@@ -18,7 +18,7 @@ use Rattle.exec_tree.specs.Size.{expression_size}
 use Rattle.exec_tree.specs.Walk.{Visit, visit_of, channel_below, part_walk, visits_from}
 use Rattle.exec_tree.specs.TreeFault.{Seen, fault_by, with_channel, seen_with, first_fault, seen_after}
 use Rattle.exec_tree.specs.TreeOf.{part_tree, exec_found, tree_from}
-use Rattle.exec_tree.specs.Arena.{tree_down, numbers_in, IsClosed, IsKept, HasArity, AreShapedFrom, Label, label_in, labels_in}
+use Rattle.exec_tree.specs.Arena.{tree_down, numbers_in, IsClosed, IsKept, HasArity, AreShapedFrom, AreNamedFrom, Label, label_in, labels_in}
 use Rattle.exec_tree.specs.Walked.{Walked, seen_of, bare, entered, with_elements, label_of, labels_from, Grows, IsHeld, AreElements, IsFault}
 use Rattle.std.proofs.lemmas.List.{append-nil}
 use Rattle.exec_tree.proofs.PlaceLemmas.{set_is}
@@ -33,6 +33,7 @@ pub record Goes (entities : ℕ → Option Entity) (old now : Walked) (all ahead
   pub kept : IsKept old.nodes now.nodes 0 (length old.nodes)
   pub closed : IsClosed now.nodes (length old.nodes) (length now.nodes)
   pub shaped : AreShapedFrom now.nodes (length old.nodes) (length now.nodes)
+  pub named : AreNamedFrom now.nodes (length old.nodes) (length now.nodes)
   pub labels : labels_in old.nodes ++ labels_from entities (seen_of old) all ≡ labels_in now.nodes ++ labels_from entities (seen_of now) ahead
 
 pub goes_start : (entities : ℕ → Option Entity) (old : Walked) (all : List Visit) → Goes entities old old all all
@@ -43,6 +44,7 @@ goes_start entities old all = record {
   kept = λ r f t. refl;
   closed = λ r q node f t e h. absurd (omega arith);
   shaped = λ r node f t e. absurd (omega arith);
+  named = λ r node f t e. absurd (omega arith);
   labels = refl;
 }
 
@@ -72,6 +74,10 @@ goes_on entities old now next all vs ahead g w = record {
     | inl l ↦ g.shaped r node f l (sym (w.kept r (omega arith) l) ∙ e)
     | inr l ↦ w.shaped r node l t e
   ];
+  named = λ r node f t e. elim (at_or_below r (length now.nodes)) [
+    | inl l ↦ g.named r node f l (sym (w.kept r (omega arith) l) ∙ e)
+    | inr l ↦ w.named r node l t e
+  ];
   labels = g.labels
       ∙ (ap (λ (ls : List Label). labels_in now.nodes ++ ls) (labels_append entities (seen_of now) vs ahead ∙ ap (λ (s : Seen). labels_from entities (seen_of now) vs ++ labels_from entities s ahead) (sym w.seen))
       ∙ (sym (append_assoc (labels_in now.nodes) (labels_from entities (seen_of now) vs) (labels_from entities (seen_of next) ahead))
@@ -86,6 +92,7 @@ goes_end entities old now all g = record {
   kept = g.kept;
   closed = g.closed;
   shaped = g.shaped;
+  named = g.named;
   labels = sym (append-nil (labels_in now.nodes)) ∙ sym g.labels;
 }
 
@@ -254,6 +261,18 @@ set_shaped ms p b elements l s a r node f t e = elim (at_or_below p r) [
       subst (λ (k : BareNode). HasArity k.kind k.elements) is a
 ]
 
+set_named : (ms : List BareNode) (p : ℕ) (b : BareNode) (elements : List ℕ) → p < length ms → AreNamedFrom ms (p + 1) (length ms) → (b.number ≡ None → b.kind ≡ kind.Plan)
+    → AreNamedFrom (slice_set ms p (record b { elements = elements })) p (length ms)
+set_named ms p b elements l s a r node f t e = elim (at_or_below p r) [
+  | inl m ↦ let other : p ≡ r → ⊥ = omega arith in s r node (omega arith) t (sym (get_other ms p r (record b { elements = elements }) other) ∙ e)
+  | inr m ↦
+      let same : p ≡ r = omega arith in
+      let at : slice_get (slice_set ms p (record b { elements = elements })) r ≡ Some (record b { elements = elements }) =
+      subst (λ (s : ℕ). slice_get (slice_set ms p (record b { elements = elements })) s ≡ Some (record b { elements = elements })) same (get_set ms p (record b { elements = elements }) l) in
+      let is : record b { elements = elements } ≡ node = cc in
+      subst (λ (k : BareNode). k.number ≡ None → k.kind ≡ kind.Plan) is a
+]
+
 same_length : {A B C : Type 0} (f : A → C) (h : B → C) (xs : List A) (ys : List B) → map f xs ≡ map h ys → length xs ≡ length ys
 same_length f h [] [] e = refl
 same_length f h [] (y ∷ ys) e = absurd (cc)
@@ -323,6 +342,8 @@ grown entities old mid new n left place channel elements none at g es is =
         closed = subst (λ (k : ℕ). IsClosed (slice_set ms p c) p k) (sym (length_set ms p c)) (set_closed ms p b elements within closed es_within);
         shaped = subst (λ (k : ℕ). AreShapedFrom (slice_set ms p c) p k) (sym (length_set ms p c))
             (set_shaped ms p b elements within (subst (λ (k : ℕ). AreShapedFrom ms k (length ms)) bare_long g.shaped) (arity_found (entities n) elements (same_length (tree_down ms (left - 1)) (part_tree (λ m. tree_from entities (left - 1) m)) elements (parts_at (entities n)) es.hold)));
+        named = subst (λ (k : ℕ). AreNamedFrom (slice_set ms p c) p k) (sym (length_set ms p c))
+            (set_named ms p b elements within (subst (λ (k : ℕ). AreNamedFrom ms k (length ms)) bare_long g.named) (λ none. absurd (let w : Some n ≡ None = none in cc)));
         labels = labels_set ms p b elements at_p ∙ (g.labels ∙ labels_here entities old n left channel more);
       },
       record {
@@ -414,9 +435,9 @@ parts_on entities old now next levels f h parts i part elements later place e g 
 
 -- ---- a branch that is left out
 
-pub blank_grows : (entities : ℕ → Option Entity) (old : Walked) (node : BareNode) → node.number ≡ None → node.elements ≡ [] → HasArity node.kind node.elements
+pub blank_grows : (entities : ℕ → Option Entity) (old : Walked) (node : BareNode) → node.number ≡ None → node.elements ≡ [] → HasArity node.kind node.elements → node.kind ≡ kind.Plan
     → Grows entities old (with_nodes old (old.nodes ++ node ∷ [])) []
-blank_grows entities old node e n a = record {
+blank_grows entities old node e n a plan = record {
   no_fault = refl;
   seen = ap (λ (ns : List ℕ). let s : Seen = record { numbers = ns; weight = old.weight; channels = old.channels; fixed = old.fixed } in s) same;
   longer = omega (arith, length_bare old.nodes node);
@@ -432,6 +453,11 @@ blank_grows entities old node e n a = record {
       let here : slice_get (old.nodes ++ node ∷ []) r ≡ Some node = subst (λ (k : ℕ). slice_get (old.nodes ++ node ∷ []) k ≡ Some node) last (get_last old.nodes node) in
       let is : node ≡ found = cc in
       subst (λ (k : BareNode). HasArity k.kind k.elements) is a;
+  named = λ r found f t at none.
+      let last : length old.nodes ≡ r = omega (arith, length_bare old.nodes node) in
+      let here : slice_get (old.nodes ++ node ∷ []) r ≡ Some node = subst (λ (k : ℕ). slice_get (old.nodes ++ node ∷ []) k ≡ Some node) last (get_last old.nodes node) in
+      let is : node ≡ found = cc in
+      subst (λ (k : BareNode). k.kind ≡ kind.Plan) is plan;
   labels = filter_map-append label_in old.nodes (node ∷ []) ∙ ap (λ (ls : List Label). labels_in old.nodes ++ ls) (rw e refl);
 }
   where

@@ -81,6 +81,14 @@ AreShapedFrom arena from to = (r : ℕ) (node : BareNode) → from ≤ r → r <
 abbrev pub AreShaped : List BareNode → Type 0
 AreShaped arena = (p : ℕ) (node : BareNode) → slice_get arena p ≡ Some node → HasArity node.kind node.elements
 
+-- the nodes from one place to another have numbers, but for workplans: the branches that ifs leave out
+abbrev pub AreNamedFrom : List BareNode → ℕ → ℕ → Type 0
+AreNamedFrom arena from to = (r : ℕ) (node : BareNode) → from ≤ r → r < to → slice_get arena r ≡ Some node → node.number ≡ None → node.kind ≡ kind.Plan
+
+-- each node has a number, or is a workplan
+abbrev pub AreNamed : List BareNode → Type 0
+AreNamed arena = (p : ℕ) (node : BareNode) → slice_get arena p ≡ Some node → node.number ≡ None → node.kind ≡ kind.Plan
+
 -- what is said of a node beside its elements
 pub record Label : Type 0 where
   pub number : ℕ

@@ -15,7 +15,7 @@ use Rattle.exec_tree.specs.declared.node.BareNode.{BareNode}
 use Rattle.exec_tree.specs.declared.role.Role.{Role}
 use Rattle.exec_tree.specs.declared.role.Role.TheVariants.{Free}
 use Rattle.exec_tree.specs.Executable.{kind_at, reference_at}
-use Rattle.exec_tree.specs.Arena.{tree_down, IsClosed, AreShaped, labels_in}
+use Rattle.exec_tree.specs.Arena.{tree_down, numbers_in, IsClosed, AreShaped, AreNamed, labels_in}
 use Rattle.exec_tree.specs.Said.{Said, said_at}
 use Rattle.exec_tree.specs.Role.{role_said}
 use Rattle.exec_tree.specs.TreeFault.{Seen, nothing_seen, seen_after, walk_of, first_fault_from}
@@ -59,12 +59,14 @@ abbrev pub main_in : List BareNode → ℕ
 main_in [] = 0
 main_in (node ∷ nodes) = unwrap_or node.number 0
 
--- the map tells each node's place; the elements of a node lie after it, and are as many as its kind has; in the tree each number stands once
+-- the map tells each node's place; the elements of a node lie after it, and are as many as its kind has; the numbers stand in preorder; in the tree each number stands once
 -- and each selective has an element; the steps are those of the nodes; there aren't too many channels
 pub record IsTree (places : BTreeMap ℕ ℕ) (nodes : List BareNode) (steps channels : List ℕ) : Type 0 where
   pub at : (q : ℕ) → get nat_cmp places q ≡ place_from 0 nodes q
   pub closed : IsClosed nodes 0 (length nodes)
   pub shaped : AreShaped nodes
+  pub named : AreNamed nodes
+  pub preorder : numbers_in nodes ≡ exec.nodes (tree_down nodes MAX_TREE_NESTING 0)
   pub distinct : AreDistinct (exec.nodes (tree_down nodes MAX_TREE_NESTING 0))
   pub choices : HasChoices (tree_down nodes MAX_TREE_NESTING 0)
   pub small : length nodes < 2 ^ 32

@@ -11,7 +11,7 @@ use Rattle.exec_tree.specs.declared.error.TreeErr.{TreeErr}
 use Rattle.exec_tree.specs.declared.error.TreeErr.TheVariants.{NoMemory}
 use Rattle.exec_tree.specs.Executable.{kind_at, channel_at}
 use Rattle.exec_tree.specs.Size.{expression_size}
-use Rattle.exec_tree.specs.Arena.{numbers_in, tree_down, IsClosed, IsKept, AreShapedFrom, Label, labels_in}
+use Rattle.exec_tree.specs.Arena.{numbers_in, tree_down, IsClosed, IsKept, AreShapedFrom, AreNamedFrom, Label, labels_in}
 use Rattle.exec_tree.specs.Walk.{Visit, channel_below}
 use Rattle.exec_tree.specs.TreeFault.{Seen, with_channel, seen_with, first_fault, seen_after}
 
@@ -91,6 +91,7 @@ pub record Grows (entities : ℕ → Option Entity) (old new : Walked) (visits :
   pub kept : IsKept old.nodes new.nodes 0 (length old.nodes)
   pub closed : IsClosed new.nodes (length old.nodes) (length new.nodes)
   pub shaped : AreShapedFrom new.nodes (length old.nodes) (length new.nodes)
+  pub named : AreNamedFrom new.nodes (length old.nodes) (length new.nodes)
   pub labels : labels_in new.nodes ≡ labels_in old.nodes ++ labels_from entities (seen_of old) visits
 
 -- the elements are among the new nodes, and hold these trees

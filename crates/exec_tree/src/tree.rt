@@ -4,7 +4,7 @@ ghost use Rattle.std.specs.Prelude.{◌≡◌, ◌<◌, ◌≤◌, ◌+◌, max,
 ghost use Rattle.project_store.specs.Entities.{entity_at};
 ghost use Rattle.exec_tree.specs.declared.limits.TheConstants.{MAX_CHANNELS, MAX_TREE_NESTING};
 ghost use Rattle.exec_tree.specs.Exec.{number_or_none, nodes, AreDistinct, HasChoices};
-ghost use Rattle.exec_tree.specs.Arena.{tree_down, IsClosed, AreShaped};
+ghost use Rattle.exec_tree.specs.Arena.{tree_down, numbers_in, IsClosed, AreShaped, AreNamed};
 ghost use Rattle.exec_tree.specs.Said.{bare_of, said_by, said_of};
 ghost use Rattle.exec_tree.specs.TreeFault.{first_tree_fault, first_fault_from, seen_before};
 ghost use Rattle.exec_tree.specs.Walked.{IsFault, place_from};
@@ -110,12 +110,14 @@ impl Tree {
         self.nodes.len() as u32
     }
 
-    /// The nodes by place. The elements of a node lie after it, and are as many as its kind has. Each number stands once, and each selective
-    /// has an element.
+    /// The nodes by place. The elements of a node lie after it, and are as many as its kind has. The numbers stand in preorder; only a branch
+    /// that an if leaves out has none. Each number stands once, and each selective has an element.
     pub fn nodes(&self) -> &[Node]
         ensures nodes { map bare_of result.now ≡ self.now.nodes }
         ensures said { map said_by result.now ≡ self.now.said }
         ensures shaped { AreShaped self.now.nodes }
+        ensures named { AreNamed self.now.nodes }
+        ensures preorder { numbers_in self.now.nodes ≡ nodes (tree_down self.now.nodes MAX_TREE_NESTING 0) }
         ensures closed { IsClosed self.now.nodes 0 (length self.now.nodes) }
         ensures distinct { AreDistinct (nodes (tree_down self.now.nodes MAX_TREE_NESTING 0)) }
         ensures choices { HasChoices (tree_down self.now.nodes MAX_TREE_NESTING 0) }

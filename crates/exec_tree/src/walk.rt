@@ -3,7 +3,7 @@
 ghost use Rattle.std.specs.Prelude.{◌≡◌, ◌≤◌, ◌<◌, ◌+◌, [], ◌∷◌, ◌++◌, ℕ, min, true, false, length, map, Option, Some, None, OnOk, IfOk, OnErr, IfErr, option_copied};
 ghost use Rattle.exec_tree.specs.declared.limits.TheConstants.{MAX_TREE_NESTING};
 ghost use Rattle.exec_tree.specs.Exec.{nodes, has, AreDistinct, HasChoices};
-ghost use Rattle.exec_tree.specs.Arena.{numbers_in, tree_down, IsClosed, AreShaped};
+ghost use Rattle.exec_tree.specs.Arena.{numbers_in, tree_down, IsClosed, AreShaped, AreNamed};
 ghost use Rattle.exec_tree.specs.Said.{said_at};
 ghost use Rattle.exec_tree.specs.TreeFault.{with_channel, channel_fault, fault_by};
 ghost use Rattle.exec_tree.specs.Walked.{seen_of, place_from, place_among, number_among, has_room, with_elements};
@@ -201,6 +201,8 @@ impl Walk {
     ) -> Result<Tree, NoMemory>
         requires closed { IsClosed self.nodes 0 (length self.nodes) }
         requires shaped { AreShaped self.nodes }
+        requires named { AreNamed self.nodes }
+        requires preorder { numbers_in self.nodes ≡ nodes (tree_down self.nodes MAX_TREE_NESTING 0) }
         requires distinct { AreDistinct (nodes (tree_down self.nodes MAX_TREE_NESTING 0)) }
         requires choices { HasChoices (tree_down self.nodes MAX_TREE_NESTING 0) }
         ensures { IfOk result (λ tree. tree ≡ record { nodes = self.nodes; said = map (said_at (E.entities entities.now)) self.nodes; channels = self.channels }) }

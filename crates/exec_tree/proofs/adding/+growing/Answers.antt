@@ -46,7 +46,7 @@ add_part-returns-in_ok-push_blank-in-None-clause-grown g t c =
     let entities = g.E.Entities.entities c.args.entities.now in
     let below = λ (m : ℕ). visits_from entities c.args.left c.args.channel m in
     subst (λ (p : Option ℕ). Grows entities c.args.walk.now c.push_blank.new.self (part_walk below p)) (sym c.in-None.is)
-    (subst (λ (w : Walked). Grows entities c.args.walk.now w []) (sym c.in_ok-push_blank-in-None.ensures.ok) (blank_grows entities c.args.walk.now _ refl refl tt))
+    (subst (λ (w : Walked). Grows entities c.args.walk.now w []) (sym c.in_ok-push_blank-in-None.ensures.ok) (blank_grows entities c.args.walk.now _ refl refl tt refl))
 
 pub add_part-returns-in_ok-push_blank-in-None-clause-held :
     goal.add_part-returns-in_ok-push_blank-in-None-clause-held
