@@ -2,3 +2,4 @@ pub mod BitLemmas
 pub mod SumLemmas
 pub mod LevelLemmas
 pub mod BlankLemmas
+pub mod NextLemmas

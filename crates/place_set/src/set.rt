@@ -1,9 +1,9 @@
 //! A set of places in three levels of words.
 
-ghost use Rattle.std.specs.Prelude.{◌≡◌, ◌<◌, ◌==◌, ◌||◌, ◌&&◌, ◌↔◌, not, ℕ, true, false, IsTrue, MatchOption};
-ghost use Rattle.place_set.specs.Words.{holds};
+ghost use Rattle.std.specs.Prelude.{◌≡◌, ◌<◌, ◌≤◌, ◌==◌, ◌||◌, ◌&&◌, ◌↔◌, not, ℕ, true, false, length, IsTrue, MatchOption};
+ghost use Rattle.place_set.specs.Words.{holds, SumsUp, IsSummed, NoneFrom, IsNextFrom};
 
-use crate::words::{clear_bit, first_of_word, has_bit, set_bit};
+use crate::words::{clear_bit, first_of_word, has_bit, next_in_word, set_bit};
 use std::marker::Model;
 
 /// How many places there are, those from 0 on below this: as many as three levels of words have bits. A tree has fewer nodes, those of branches
@@ -28,6 +28,45 @@ impl Model for PlaceSet {
     ghost view = { λ s. s.low };
 
     ghost invariant = { λ s. IsSummed s.low s.mid s.top };
+}
+
+/// The first bit from i on of words that others sum up.
+fn next_up(below: &[u64], above: &[u64], i: usize) -> Option<usize>
+    requires long { length below.now ≡ 64 }
+    requires one { length above.now ≡ 1 }
+    requires sums { SumsUp below.now above.now }
+    ensures { MatchOption result (NoneFrom below.now i) (IsNextFrom below.now i) }
+{
+    if i >= 4096 {
+        return None;
+    }
+    if let Some(b) = next_in_word(below, i) {
+        return Some(b);
+    }
+    if i / 64 + 1 >= 64 {
+        return None;
+    }
+    match next_in_word(above, i / 64 + 1) {
+        Some(w) => Some(first_of_word(below, w)),
+        None => None,
+    }
+}
+
+/// The first bit from i on of the lowest of three levels.
+fn next_below(low: &[u64], mid: &[u64], top: &[u64], i: usize) -> Option<usize>
+    requires { IsSummed low.now mid.now top.now }
+    ensures { MatchOption result (NoneFrom low.now i) (IsNextFrom low.now i) }
+{
+    if i >= MAX_PLACES as usize {
+        return None;
+    }
+    if let Some(b) = next_in_word(low, i) {
+        return Some(b);
+    }
+    match next_up(mid, top, i / 64 + 1) {
+        Some(w) => Some(first_of_word(low, w)),
+        None => None,
+    }
 }
 
 impl PlaceSet {
@@ -91,6 +130,16 @@ impl PlaceSet {
             if self.mid[i / 64 / 64] == 0 {
                 clear_bit(&mut self.top, i / 64 / 64);
             }
+        }
+    }
+
+    /// The least place of the set that doesn't lie before `place`. None comes exactly where it has no such place.
+    pub fn first_from(&self, place: u32) -> Option<u32>
+        ensures { MatchOption result ((q : ℕ) → place ≤ q → holds self.now q ≡ false) (λ p. (holds self.now p ≡ true) × (p < MAX_PLACES) × (place ≤ p) × ((q : ℕ) → place ≤ q → q < p → holds self.now q ≡ false)) }
+    {
+        match next_below(&self.low, &self.mid, &self.top, place as usize) {
+            Some(p) => Some(p as u32),
+            None => None,
         }
     }
 
