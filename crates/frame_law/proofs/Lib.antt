@@ -14,4 +14,9 @@ pub mod StepUpLemmas
 pub mod LedLemmas
 pub mod GoingLemmas
 pub mod OpenedLemmas
+pub mod LookLemmas
+pub mod OpensLemmas
+pub mod ComeLemmas
+pub mod BoundLemmas
+pub mod NumberedLemmas
 pub mod Rows

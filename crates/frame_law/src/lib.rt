@@ -5,4 +5,5 @@
 pub mod going;
 pub mod kinds;
 pub mod laws;
+pub mod looks;
 pub mod tree;
