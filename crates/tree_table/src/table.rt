@@ -82,6 +82,15 @@ impl Table {
         self.rows.as_slice()
     }
 
+    /// The place to which opening the tree leads, none where the tree has nothing to do.
+    pub fn tree_into(&self, arena: &[Node]) -> Option<u32>
+        requires { IsTable (map bare_of arena.now) self.now.rows.items }
+        ensures { LeadsTo (map bare_of arena.now) self.now.rows.items (placed (map bare_of arena.now)) result }
+    {
+        leads_opens();
+        lead_at(arena, self.rows.as_slice(), MAX_TREE_NESTING, 0)
+    }
+
     /// The place to which opening an element of the node at a place leads, none where the element has nothing to do.
     pub fn element_into(&self, arena: &[Node], place: u32, element: u32) -> Option<u32>
         requires shaped { AreShaped (map bare_of arena.now) }
