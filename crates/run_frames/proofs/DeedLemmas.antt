@@ -10,7 +10,7 @@ use Rattle.exec_tree.specs.declared.kind.Kind.TheVariants as kind
 use Rattle.trace_law.specs.Cells.{Cell, picked, stage_of}
 use Rattle.trace_law.specs.Offer.{Offer, Picks, Tests, Nothing, IsOpen, offer_by, offer_by_among, offer_of_work, offer_of_two}
 use Rattle.tree_table.specs.Placed.{place_for, placed_down, placed_all}
-use Rattle.run_frames.specs.Standing.{offer_at, offer_there}
+use Rattle.run_frames.specs.OfferAt.{offer_at, offer_there}
 use Rattle.run_frames.proofs.RenamingLemmas.{same_number}
 use Rattle.run_frames.proofs.PlacedLemmas.{down_zero, down_none, down_node, count_is}
 use Rattle.run_frames.proofs.KeepLemmas.{has_append, has_left, has_right}

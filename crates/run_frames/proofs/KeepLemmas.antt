@@ -1,17 +1,17 @@
 -- What the frames of some nodes tell stays where these frames stay.
-use Rattle.std.specs.Prelude.{◌≡◌, ◌+◌, ◌-◌, ℕ, zero, suc, ◌==◌, ◌||◌, Bool, true, false, if◌then◌else◌, List, [], ◌∷◌, ◌++◌, length, Option, Some, None}
-use Rattle.std.proofs.Common.{refl, sym, ◌∙◌, ap, subst, arith}
+use Rattle.std.specs.Prelude.{◌≡◌, ℕ, zero, suc, ◌==◌, ◌||◌, Bool, true, false, List, [], ◌∷◌, ◌++◌, Option, Some, None}
+use Rattle.std.proofs.Common.{refl, ◌∙◌, ap, arith}
 use Rattle.std.proofs.lemmas.Bool.Decides.{nat_tests}
-use Rattle.exec_tree.specs.Exec.{Exec, Work, Leaf, Plan, Par, NonSeq, Sel, If, While, Execs, None_left, Then, nodes, nodes_all, number_or_none, has, count}
-use Rattle.trace_law.specs.Of.{is_of, only}
-use Rattle.trace_law.specs.Own.{picks, pick_of, test_of, turns}
+use Rattle.exec_tree.specs.Exec.{Exec, Work, Leaf, Plan, Par, NonSeq, Sel, If, While, Execs, None_left, Then, nodes, nodes_all, number_or_none, has}
+use Rattle.trace_law.specs.Of.{only}
+use Rattle.trace_law.specs.Own.{picks, turns}
 use Rattle.trace_law.specs.Elements.{part_at}
-use Rattle.trace_law.specs.Next.{next, first_of_two, next_of_last}
-use Rattle.trace_law.specs.Cells.{Cell, Left, first_answer, last_answer, last_body, picked, answer, if_going, after_picks, next_by, next_by_order, next_by_each, next_by_at, AreKept, WhereTrue, WhereSome}
-use Rattle.trace_law.specs.Frames.{one_where, left, next_by_of, is_shared, WhereEmpty, OfFirst, OfLast, OfBranch, Stands, StandsInOrder, StandsEach, StandsAt, Goes, GoesInOrder, GoesOne}
+use Rattle.trace_law.specs.Next.{next}
+use Rattle.trace_law.specs.Cells.{Cell, first_answer, last_answer, last_body, AreKept, WhereTrue, WhereSome}
+use Rattle.trace_law.specs.Frames.{is_shared, WhereEmpty, OfFirst, OfLast, OfBranch, Stands, StandsInOrder, StandsEach, StandsAt}
 use Rattle.run_log.specs.declared.entry.Entry.{Entry}
 use Rattle.run_frames.specs.declared.frame.Frame.{Frame}
-use Rattle.run_frames.specs.Frames.{told, frame_at, cells_of, skipped, skipped_at, Leads, LeadsFrom, LeadsEach, LeadsAt}
+use Rattle.run_frames.specs.Frames.{told, frame_at, cells_of}
 
 -- the frames of these nodes are the same
 abbrev pub AreAlike : List Frame → List Frame → List ℕ → Type 0
@@ -60,54 +60,6 @@ k_own c c' n ns h = h n (has_self n ns)
 
 k_rest : (c c' : ℕ → Cell) (n : ℕ) (ns : List ℕ) → AreKept c c' (n ∷ ns) → AreKept c c' ns
 k_rest c c' n ns h m i = h m (has_rest n ns m i)
-
-pub kept_by : (c d d' : ℕ → Cell) (ns : List ℕ) → AreKept d d' ns → AreKept c d ns → AreKept c d' ns
-kept_by c d d' ns h k m i = h m i ∙ k m i
-
--- ---- Next
-
-last_alike : (f g : ℕ → List ℕ) (ks : List ℕ) → ((k : ℕ) → f k ≡ g k) → next_of_last f ks ≡ next_of_last g ks
-last_alike f g [] h = refl
-last_alike f g (k ∷ []) h = h k
-last_alike f g (k ∷ j ∷ ks) h = last_alike f g (j ∷ ks) h
-
-picks_alike : (n : ℕ) (f g : ℕ → List ℕ) (ks : List ℕ) → ((k : ℕ) → f k ≡ g k) → after_picks n ks f ≡ after_picks n ks g
-picks_alike n f g [] h = refl
-picks_alike n f g (k ∷ ks) h = h k
-
-mutual
-  pub next_kept : (c c' : ℕ → Cell) (e : Exec) → AreKept c c' (nodes e) → next_by c' e ≡ next_by c e
-  next_kept c c' (Work n) h = ap (λ (w : Cell). if_going w n) (k_own c c' n [] h)
-  next_kept c c' (Leaf n k) h = ap (λ (w : Cell). if_going w n) (k_own c c' n [] h)
-  next_kept c c' (Plan n es) h = order_kept c c' es (k_right c c' (number_or_none n) (nodes_all es) h)
-  next_kept c c' (Par n es) h = each_kept c c' es (k_rest c c' n (nodes_all es) h)
-  next_kept c c' (NonSeq n es) h =
-      rw (k_own c c' n (nodes_all es) h)
-      (ap (λ (l : List ℕ). first_of_two l (if length (picked (c n)) == count es then [] else n ∷ []))
-      (last_alike (λ k. next_by_at c' es k) (λ k. next_by_at c es k) (picked (c n)) (λ k. at_kept c c' es k (k_rest c c' n (nodes_all es) h))))
-  next_kept c c' (Sel n es) h =
-      rw (k_own c c' n (nodes_all es) h) (picks_alike n (λ k. next_by_at c' es k) (λ k. next_by_at c es k) (picked (c n)) (λ k. at_kept c c' es k (k_rest c c' n (nodes_all es) h)))
-  next_kept c c' (If n a b) h =
-      let r = k_rest c c' n (nodes a ++ nodes b) h in
-      rw (k_own c c' n (nodes a ++ nodes b) h, next_kept c c' a (k_left c c' (nodes a) (nodes b) r), next_kept c c' b (k_right c c' (nodes a) (nodes b) r)) refl
-  next_kept c c' (While n a) h = rw (k_own c c' n (nodes a) h, next_kept c c' a (k_rest c c' n (nodes a) h)) refl
-
-  pub order_kept : (c c' : ℕ → Cell) (es : Execs) → AreKept c c' (nodes_all es) → next_by_order c' es ≡ next_by_order c es
-  order_kept c c' None_left h = refl
-  order_kept c c' (Then e es) h = rw (next_kept c c' e (k_left c c' (nodes e) (nodes_all es) h), order_kept c c' es (k_right c c' (nodes e) (nodes_all es) h)) refl
-
-  pub each_kept : (c c' : ℕ → Cell) (es : Execs) → AreKept c c' (nodes_all es) → next_by_each c' es ≡ next_by_each c es
-  each_kept c c' None_left h = refl
-  each_kept c c' (Then e es) h = rw (next_kept c c' e (k_left c c' (nodes e) (nodes_all es) h), each_kept c c' es (k_right c c' (nodes e) (nodes_all es) h)) refl
-
-  pub at_kept : (c c' : ℕ → Cell) (es : Execs) (k : ℕ) → AreKept c c' (nodes_all es) → next_by_at c' es k ≡ next_by_at c es k
-  at_kept c c' None_left k h = refl
-  at_kept c c' (Then e es) zero h = next_kept c c' e (k_left c c' (nodes e) (nodes_all es) h)
-  at_kept c c' (Then e es) (suc k) h = at_kept c c' es k (k_right c c' (nodes e) (nodes_all es) h)
-
-of_kept : (c c' : ℕ → Cell) (es : Execs) (x : Entry) → AreKept c c' (nodes_all es) → next_by_of c' es x ≡ next_by_of c es x
-of_kept c c' None_left x h = refl
-of_kept c c' (Then e es) x h = rw (next_kept c c' e (k_left c c' (nodes e) (nodes_all es) h), of_kept c c' es x (k_right c c' (nodes e) (nodes_all es) h)) refl
 
 -- ---- what is said where something holds
 
@@ -176,116 +128,3 @@ mutual
   stands_at_kept c c' None_left k t h s = tt
   stands_at_kept c c' (Then e es) zero t h s = stands_kept c c' e t (k_left c c' (nodes e) (nodes_all es) h) s
   stands_at_kept c c' (Then e es) (suc k) t h s = stands_at_kept c c' es k t (k_right c c' (nodes e) (nodes_all es) h) s
-
--- ---- frames that have moved, seen from later ones
-
-mutual
-  pub goes_kept : (c d d' : ℕ → Cell) (e : Exec) (x : Entry) → AreKept d d' (nodes e) → Goes c e x d → Goes c e x d'
-  goes_kept c d d' (Work n) x h g = k_own d d' n [] h ∙ g
-  goes_kept c d d' (Leaf n k) x h g = k_own d d' n [] h ∙ g
-  goes_kept c d d' (Plan n es) x h g = goes_in_order_kept c d d' es x (k_right d d' (number_or_none n) (nodes_all es) h) g
-  goes_kept c d d' (Par n es) x h g = (
-    where_map (is_shared es) _ _ _ _ (λ w. k_own d d' n (nodes_all es) h ∙ (w ∙ ap (λ (l : List ℕ). Left (left (c n) + one_where l - 1)) (sym (of_kept d d' es x (k_rest d d' n (nodes_all es) h))))) (λ w. w) g.0,
-    goes_one_kept c d d' es x (k_rest d d' n (nodes_all es) h) g.1,
-  )
-  goes_kept c d d' (NonSeq n es) x h g =
-      some_map (pick_of n x) _ _ _ _ (λ k w. (k_own d d' n (nodes_all es) h ∙ w.0, stands_at_kept d d' es k [] (k_rest d d' n (nodes_all es) h) w.1))
-      (λ w. (k_own d d' n (nodes_all es) h ∙ w.0, goes_one_kept c d d' es x (k_rest d d' n (nodes_all es) h) w.1)) g
-  goes_kept c d d' (Sel n es) x h g =
-      some_map (pick_of n x) _ _ _ _ (λ k w. (k_own d d' n (nodes_all es) h ∙ w.0, stands_at_kept d d' es k [] (k_rest d d' n (nodes_all es) h) w.1))
-      (λ w. (k_own d d' n (nodes_all es) h ∙ w.0, goes_one_kept c d d' es x (k_rest d d' n (nodes_all es) h) w.1)) g
-  goes_kept c d d' (If n a b) x h g =
-      let r = k_rest d d' n (nodes a ++ nodes b) h in
-      let l = k_left d d' (nodes a) (nodes b) r in
-      let m = k_right d d' (nodes a) (nodes b) r in
-      some_map (test_of n x) _ _ _ _
-      (λ ans w. (k_own d d' n (nodes a ++ nodes b) h ∙ w.0, branch_map (Some ans) _ _ _ _ (λ v. stands_kept d d' a [] l v) (λ v. stands_kept d d' b [] m v) w.1))
-      (λ w. (k_own d d' n (nodes a ++ nodes b) h ∙ w.0, where_map (is_of (nodes a) x) _ _ _ _ (λ v. goes_kept c d d' a x l v) (λ v. goes_kept c d d' b x m v) w.1)) g
-  goes_kept c d d' (While n a) x h g =
-      let r = k_rest d d' n (nodes a) h in
-      some_map (test_of n x) _ _ _ _
-      (λ ans w. (k_own d d' n (nodes a) h ∙ w.0, branch_map (Some ans) _ _ _ _ (λ v. stands_kept d d' a [] r v) (λ v. v) w.1))
-      (λ w. (k_own d d' n (nodes a) h ∙ w.0, goes_kept c d d' a x r w.1)) g
-
-  pub goes_in_order_kept : (c d d' : ℕ → Cell) (es : Execs) (x : Entry) → AreKept d d' (nodes_all es) → GoesInOrder c es x d → GoesInOrder c es x d'
-  goes_in_order_kept c d d' None_left x h g = tt
-  goes_in_order_kept c d d' (Then e es) x h g =
-      let l = k_left d d' (nodes e) (nodes_all es) h in
-      let m = k_right d d' (nodes e) (nodes_all es) h in
-      where_map (is_of (nodes e) x) _ _ _ _
-      (λ w. (
-        goes_kept c d d' e x l w.0,
-        subst (λ (v : List ℕ). WhereEmpty v (StandsInOrder d' es [])) (sym (next_kept d d' e l)) (empty_map (next_by d e) _ _ (λ v. stands_in_order_kept d d' es [] m v) w.1),
-      ))
-      (λ w. (kept_by c d d' (nodes e) l w.0, goes_in_order_kept c d d' es x m w.1)) g
-
-  pub goes_one_kept : (c d d' : ℕ → Cell) (es : Execs) (x : Entry) → AreKept d d' (nodes_all es) → GoesOne c es x d → GoesOne c es x d'
-  goes_one_kept c d d' None_left x h g = tt
-  goes_one_kept c d d' (Then e es) x h g =
-      let l = k_left d d' (nodes e) (nodes_all es) h in
-      let m = k_right d d' (nodes e) (nodes_all es) h in
-      where_map (is_of (nodes e) x) _ _ _ _
-      (λ w. (goes_kept c d d' e x l w.0, kept_by c d d' (nodes_all es) m w.1))
-      (λ w. (kept_by c d d' (nodes e) l w.0, goes_one_kept c d d' es x m w.1)) g
-
--- ---- frames that lead
-
-pub alike_left : (f f' : List Frame) (ms ns : List ℕ) → AreAlike f f' (ms ++ ns) → AreAlike f f' ms
-alike_left f f' ms ns h m i = h m (has_left ms ns m i)
-
-pub alike_right : (f f' : List Frame) (ms ns : List ℕ) → AreAlike f f' (ms ++ ns) → AreAlike f f' ns
-alike_right f f' ms ns h m i = h m (has_right ms ns m i)
-
-pub alike_rest : (f f' : List Frame) (n : ℕ) (ns : List ℕ) → AreAlike f f' (n ∷ ns) → AreAlike f f' ns
-alike_rest f f' n ns h m i = h m (has_rest n ns m i)
-
-alike_own : (f f' : List Frame) (n : ℕ) (ns : List ℕ) → AreAlike f f' (n ∷ ns) → cells_of f' n ≡ cells_of f n
-alike_own f f' n ns h = ap told (h n (has_self n ns))
-
-skipped_alike : (f f' : List Frame) (n : Option ℕ) (ns : List ℕ) → AreAlike f f' (number_or_none n ++ ns) → skipped_at f' n ≡ skipped_at f n
-skipped_alike f f' None ns h = refl
-skipped_alike f f' (Some n) ns h = ap skipped (h n (has_self n ns))
-
-mutual
-  pub leads_kept : (f f' : List Frame) (e : Exec) → AreAlike f f' (nodes e) → Leads f e → Leads f' e
-  leads_kept f f' (Work n) h s = tt
-  leads_kept f f' (Leaf n k) h s = tt
-  leads_kept f f' (Plan n es) h s =
-      subst (λ (k : ℕ). LeadsFrom f' k es) (sym (skipped_alike f f' n (nodes_all es) h)) (leads_from_kept f f' (skipped_at f n) es (alike_right f f' (number_or_none n) (nodes_all es) h) s)
-  leads_kept f f' (Par n es) h s = leads_each_kept f f' es (alike_rest f f' n (nodes_all es) h) s
-  leads_kept f f' (NonSeq n es) h s =
-      subst (λ (c : Cell). OfLast (λ k. LeadsAt f' es k) (picked c)) (sym (alike_own f f' n (nodes_all es) h))
-      (last_map _ _ (picked (cells_of f n)) (λ k w. leads_at_kept f f' es k (alike_rest f f' n (nodes_all es) h) w) s)
-  leads_kept f f' (Sel n es) h s =
-      subst (λ (c : Cell). OfFirst (λ k. LeadsAt f' es k) (picked c)) (sym (alike_own f f' n (nodes_all es) h))
-      (first_map _ _ (picked (cells_of f n)) (λ k w. leads_at_kept f f' es k (alike_rest f f' n (nodes_all es) h) w) s)
-  leads_kept f f' (If n a b) h s =
-      let r = alike_rest f f' n (nodes a ++ nodes b) h in
-      subst (λ (c : Cell). OfBranch (answer c) (Leads f' a) (Leads f' b)) (sym (alike_own f f' n (nodes a ++ nodes b) h))
-      (branch_map (answer (cells_of f n)) _ _ _ _ (λ w. leads_kept f f' a (alike_left f f' (nodes a) (nodes b) r) w) (λ w. leads_kept f f' b (alike_right f f' (nodes a) (nodes b) r) w) s)
-  leads_kept f f' (While n a) h s =
-      subst (λ (c : Cell). OfBranch (answer c) (Leads f' a) (Unit {0})) (sym (alike_own f f' n (nodes a) h))
-      (branch_map (answer (cells_of f n)) _ _ _ _ (λ w. leads_kept f f' a (alike_rest f f' n (nodes a) h) w) (λ w. w) s)
-
-  pub leads_from_kept : (f f' : List Frame) (k : ℕ) (es : Execs) → AreAlike f f' (nodes_all es) → LeadsFrom f k es → LeadsFrom f' k es
-  leads_from_kept f f' k None_left h s = tt
-  leads_from_kept f f' zero (Then e es) h s =
-      let l = alike_left f f' (nodes e) (nodes_all es) h in (
-        leads_kept f f' e l s.0,
-        subst (λ (v : List ℕ). WhereEmpty v (LeadsFrom f' zero es)) (sym (next_kept (cells_of f) (cells_of f') e (alike_cells f f' (nodes e) l)))
-            (empty_map (next_by (cells_of f) e) _ _ (λ w. leads_from_kept f f' zero es (alike_right f f' (nodes e) (nodes_all es) h) w) s.1),
-      )
-  leads_from_kept f f' (suc k) (Then e es) h s = (
-    next_kept (cells_of f) (cells_of f') e (alike_cells f f' (nodes e) (alike_left f f' (nodes e) (nodes_all es) h)) ∙ s.0,
-    leads_from_kept f f' k es (alike_right f f' (nodes e) (nodes_all es) h) s.1,
-  )
-
-  pub leads_each_kept : (f f' : List Frame) (es : Execs) → AreAlike f f' (nodes_all es) → LeadsEach f es → LeadsEach f' es
-  leads_each_kept f f' None_left h s = tt
-  leads_each_kept f f' (Then e es) h s =
-      (leads_kept f f' e (alike_left f f' (nodes e) (nodes_all es) h) s.0, leads_each_kept f f' es (alike_right f f' (nodes e) (nodes_all es) h) s.1)
-
-  pub leads_at_kept : (f f' : List Frame) (es : Execs) (k : ℕ) → AreAlike f f' (nodes_all es) → LeadsAt f es k → LeadsAt f' es k
-  leads_at_kept f f' None_left k h s = tt
-  leads_at_kept f f' (Then e es) zero h s = leads_kept f f' e (alike_left f f' (nodes e) (nodes_all es) h) s
-  leads_at_kept f f' (Then e es) (suc k) h s = leads_at_kept f f' es k (alike_right f f' (nodes e) (nodes_all es) h) s

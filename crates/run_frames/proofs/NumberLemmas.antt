@@ -1,5 +1,5 @@
 -- Places for numbers: what the placed tree tells is what the tree tells.
-use Rattle.std.specs.Prelude.{◌≡◌, ◌≤◌, ◌+◌, ◌==◌, ◌||◌, if◌then◌else◌, ℕ, zero, suc, Bool, true, false, List, [], ◌∷◌, ◌++◌, map, find, slice_get, Option, Some, None}
+use Rattle.std.specs.Prelude.{◌≡◌, ◌≤◌, ◌+◌, ◌==◌, ◌||◌, if◌then◌else◌, ℕ, zero, suc, Bool, true, false, List, [], ◌∷◌, ◌++◌, map, slice_get, Option, Some, None}
 use Rattle.std.proofs.Common.{refl, sym, ◌∙◌, ap, subst, arith}
 use Rattle.exec_tree.specs.Exec.{Exec, Work, Leaf, Plan, Par, NonSeq, Sel, If, While, Execs, None_left, Then, has, AreDistinct, nodes, nodes_all}
 use Rattle.exec_tree.specs.Arena.{to_execs, first_of, second_of, of_kind, number_or_zero, tree_down}
@@ -10,9 +10,6 @@ use Rattle.exec_tree.specs.declared.kind.Kind.TheVariants as kind
 use Rattle.trace_law.specs.Of.{number_of, is_of, only}
 use Rattle.run_log.specs.declared.entry.Entry.{Entry}
 use Rattle.run_log.specs.declared.entry.Entry.TheVariants.{Dispatch, Block, End, Pick, Test, Assign, Set, Pass, Note, Edit}
-use Rattle.run_frames.specs.declared.search.Search.{Search}
-use Rattle.run_frames.specs.declared.search.Search.TheVariants.{Nothing, Passed, Found}
-use Rattle.run_frames.specs.Search.{behind, searched}
 use Rattle.tree_table.specs.Placed.{place_for, placed_node, placed_down, number_at}
 use Rattle.run_frames.specs.Renaming.{IsOneToOne, renamed, renamed_all, entry_renamed, entry_at}
 use Rattle.run_frames.proofs.RenamingLemmas.{same_number}
@@ -178,60 +175,16 @@ spread_once r ns d a b e = go (has ns a) refl (has ns b) refl
     go false t true u = let x : r b ≡ suc (total r ns + a) = sym (spread_is r ns b u) ∙ (sym e ∙ out a t) in let l = total_most r ns b u in absurd (omega (arith, x, l))
     go false t false u = let x : suc (total r ns + a) ≡ suc (total r ns + b) = sym (out a t) ∙ (e ∙ out b u) in omega (arith, x)
 
--- ---- a search by numbers
+-- ---- entries
 
-abbrev pub found_number : (ℕ → ℕ) → Search → Option ℕ
-found_number r (Found p) = Some (r p)
-found_number r s = None
-
-found_behind : (r : ℕ → ℕ) (s : Search) → found_number r (behind s) ≡ found_number r s
-found_behind r Nothing = refl
-found_behind r Passed = refl
-found_behind r (Found p) = refl
-
-pub found_first : (r : ℕ → ℕ) (test : ℕ → Bool) (ns : List ℕ) → find test (map r ns) ≡ found_number r (searched (λ p. test (r p)) ns)
-found_first r test [] = refl
-found_first r test (n ∷ ns) = go (test (r n)) refl (found_first r test ns)
+-- a number that is there is some node's
+pub place_with : (r : ℕ → ℕ) (ns : List ℕ) (n : ℕ) → has (map r ns) n ≡ true → (p : ℕ) × (has ns p ≡ true) × (r p ≡ n)
+place_with r [] n h = absurd (let w : false ≡ true = h in cc)
+place_with r (m ∷ ns) n h = go (r m == n) refl (λ i. place_with r ns n i)
   where
-    go : (b : Bool) → test (r n) ≡ b → find test (map r ns) ≡ found_number r (searched (λ p. test (r p)) ns) → find test (map r (n ∷ ns)) ≡ found_number r (searched (λ p. test (r p)) (n ∷ ns))
-    go true e f = rw e refl
-    go false e f = rw e (f ∙ sym (found_behind r (searched (λ p. test (r p)) ns)))
-
-found_behind_is : (s : Search) (p : ℕ) → behind s ≡ Found p → s ≡ Found p
-found_behind_is Nothing p h = absurd (let w : Passed ≡ Found p = h in cc)
-found_behind_is Passed p h = absurd (let w : Passed ≡ Found p = h in cc)
-found_behind_is (Found q) p h = h
-
-found_same : (a b : ℕ) → Found a ≡ Found b → a ≡ b
-found_same a b h = ap (λ (s : Search). place_in s) h
-  where
-    place_in : Search → ℕ
-    place_in (Found p) = p
-    place_in s = 0
-
--- what is found is there, and answers
-pub found_is : (test : ℕ → Bool) (ns : List ℕ) (p : ℕ) → searched test ns ≡ Found p → (has ns p ≡ true) × (test p ≡ true)
-found_is test [] p h = absurd (let w : Nothing ≡ Found p = h in cc)
-found_is test (n ∷ ns) p h = go (test n) refl (λ i. found_is test ns p i)
-  where
-    go : (b : Bool) → test n ≡ b → (searched test ns ≡ Found p → (has ns p ≡ true) × (test p ≡ true)) → (has (n ∷ ns) p ≡ true) × (test p ≡ true)
-    go true e f =
-        let q : n ≡ p = found_same n p (sym (ap (λ (b : Bool). if b then Found n else behind (searched test ns)) e) ∙ h) in
-        (subst (λ (m : ℕ). has (n ∷ ns) m ≡ true) q (has_self n ns), subst (λ (m : ℕ). test m ≡ true) q e)
-    go false e f =
-        let r = f (found_behind_is (searched test ns) p (sym (ap (λ (b : Bool). if b then Found n else behind (searched test ns)) e) ∙ h)) in
-        (has_rest n ns p r.0, r.1)
-
--- and what is there is found
-pub found_there : (r : ℕ → ℕ) (ns : List ℕ) (n : ℕ) → has (map r ns) n ≡ true → (p : ℕ) × (searched (λ q. r q == n) ns ≡ Found p)
-found_there r [] n h = absurd (let w : false ≡ true = h in cc)
-found_there r (m ∷ ns) n h = go (r m == n) refl (λ i. found_there r ns n i)
-  where
-    go : (b : Bool) → (r m == n) ≡ b → (has (map r ns) n ≡ true → (p : ℕ) × (searched (λ q. r q == n) ns ≡ Found p)) → (p : ℕ) × (searched (λ q. r q == n) (m ∷ ns) ≡ Found p)
-    go true e f = (m, rw e refl)
-    go false e f =
-        let z = f (sym (ap (λ (b : Bool). b || has (map r ns) n) e) ∙ h) in
-        (z.0, ap (λ (b : Bool). if b then Found m else behind (searched (λ q. r q == n) ns)) e ∙ ap behind z.1)
+    go : (b : Bool) → (r m == n) ≡ b → (has (map r ns) n ≡ true → (p : ℕ) × (has ns p ≡ true) × (r p ≡ n)) → (p : ℕ) × (has (m ∷ ns) p ≡ true) × (r p ≡ n)
+    go true e f = (m, has_self m ns, same_number (r m) n e)
+    go false e f = let z = f (sym (ap (λ (b : Bool). b || has (map r ns) n) e) ∙ h) in (z.0, has_rest m ns z.0 z.1, z.2)
 
 pub some_is : (a b : ℕ) → Some a ≡ Some b → a ≡ b
 some_is a b w = cc

@@ -1,48 +1,71 @@
--- What frames that stand for entries tell, and how they move, by numbers.
-use Rattle.std.specs.Prelude.{◌≡◌, ◌==◌, ℕ, Bool, true, false, List, [], ◌∷◌, ◌++◌, map, find, length, slice_get, option_map, Some, None}
+-- What frames of places tell of the run that the log numbers, and how they move with it.
+use Rattle.std.specs.Prelude.{◌≡◌, ◌||◌, ℕ, Bool, true, false, List, [], ◌∷◌, ◌++◌, map, find, length, slice_get, option_map, Option, Some, None, MatchOption}
 use Rattle.std.proofs.Common.{refl, sym, ◌∙◌, ap, subst}
-use Rattle.exec_tree.specs.Exec.{Exec, has, AreDistinct, HasChoices, nodes, count}
-use Rattle.exec_tree.specs.Arena.{AreShaped, tree_down}
+use Rattle.exec_tree.specs.Exec.{Exec, has, AreDistinct, HasChoices, nodes}
+use Rattle.exec_tree.specs.Arena.{AreShaped, AreNamed, numbers_in, tree_down}
+use Rattle.exec_tree.specs.Walked.{place_from}
 use Rattle.exec_tree.specs.declared.limits.TheConstants.{MAX_TREE_NESTING}
 use Rattle.exec_tree.specs.declared.node.BareNode.{BareNode}
 use Rattle.trace_law.specs.Of.{number_of, is_of, only}
 use Rattle.trace_law.specs.Of as of
 use Rattle.trace_law.specs.Part.{Part}
 use Rattle.trace_law.specs.Next.{next}
-use Rattle.trace_law.specs.Cells.{Cell, next_by}
-use Rattle.trace_law.specs.Frames.{Stands, Goes}
-use Rattle.trace_law.specs.Offer.{Offer, Starts, Cuts, Does, Picks, Tests, Nothing, IsOffered, IsOpen, offer, offer_by}
+use Rattle.trace_law.specs.Offer.{Offer, Starts, Cuts, Does, Picks, Tests, Nothing, IsOffered, IsOpen, offer}
+use Rattle.trace_law.proofs.StepLemmas.{apart, only_all, next_has}
+use Rattle.trace_law.proofs.StepForthLemmas.{step_of}
+use Rattle.trace_law.proofs.StepBackLemmas.{part_nil, part_of_step, part_inside}
+use Rattle.trace_law.proofs.ContinueLemmas.{step_of_right}
+use Rattle.trace_law.proofs.OfferLemmas.{continues}
+use Rattle.trace_law.proofs.OfferExactLemmas.{offers}
+use Rattle.trace_law.proofs.OpenOfferLemmas.{opens}
+use Rattle.trace_law.proofs.FrameOfferLemmas.{offer_from_frames}
+use Rattle.trace_law.proofs.PreorderLemmas.{next_is_in_preorder}
 use Rattle.run_log.specs.declared.entry.Entry.{Entry}
 use Rattle.run_log.specs.declared.entry.Entry.TheVariants.{Dispatch, Block, End, Pick, Test, Assign, Set, Pass, Note, Edit}
+use Rattle.place_set.specs.Words.{holds}
+use Rattle.tree_table.specs.Placed.{placed, number_at}
+use Rattle.tree_table.specs.Table.{IsTable}
+use Rattle.tree_table.specs.declared.table.Table.{Table}
+use Rattle.std.specs.Global.{Vec}
 use Rattle.run_frames.specs.declared.frames.Frames.{Frames}
 use Rattle.run_frames.specs.declared.frame.Frame.{Frame}
-use Rattle.run_frames.specs.declared.search.Search.{Search}
-use Rattle.run_frames.specs.declared.search.Search.TheVariants.{Nothing as Nowhere, Passed, Found}
-use Rattle.run_frames.specs.Search.{searched}
-use Rattle.run_frames.proofs.DeedLemmas.{offers_there}
 use Rattle.run_frames.specs.Deeds.{upto}
 use Rattle.run_frames.specs.Frames.{cells_of}
-use Rattle.tree_table.specs.Placed.{placed, number_at}
 use Rattle.run_frames.specs.Renaming.{IsOneToOne, renamed, entry_renamed, entry_at}
-use Rattle.run_frames.specs.Standing.{IsAt, IsNextOf, offer_there}
-use Rattle.run_frames.specs.Moved.{IsInOrder, IsMove, IsMoved}
-use Rattle.run_frames.specs.Opened.{IsOpened}
-use Rattle.run_frames.proofs.RenamingLemmas.{next_map, offer_map, nodes_map, number_map, same_number}
+use Rattle.run_frames.specs.OfferAt.{offer_there, IsInOrder}
+use Rattle.run_frames.specs.Entered.{IsEntered}
+use Rattle.run_frames.specs.Held.{IsHeld, IsStep}
+use Rattle.run_frames.specs.First.{NoneAnswers, IsFirst}
+use Rattle.run_frames.specs.Standing.{IsAt, IsNextOf}
+use Rattle.run_frames.proofs.RenamingLemmas.{next_map, offer_map, nodes_map, number_map}
 use Rattle.run_frames.proofs.RenamedPartLemmas.{PartLaws, part_back}
 use Rattle.run_frames.proofs.CountLemmas.{length_upto}
-use Rattle.run_frames.proofs.MoveLemmas.{next_in}
-use Rattle.run_frames.proofs.NumberLemmas.{numbered, renamed_same, entries_same, numbers_same, distinct_back, spread, spread_is, spread_once, found_number, found_first, found_is, found_there, entry_back, some_is}
-
--- what the laws of frames say
-pub record FrameLaws : Type 0 where
-  pub goes_on : (e : Exec) (t : List Entry) (c : ℕ → Cell) → AreDistinct (nodes e) → Part e t → Stands c e t → next e t ≡ next_by c e
-  pub does : (e : Exec) (t : List Entry) (m : ℕ) (c : ℕ → Cell) → AreDistinct (nodes e) → Part e t → Stands c e t → has (next e t) m ≡ true → offer e t m ≡ offer_by c e m
-  pub moved : (e : Exec) (t : List Entry) (x : Entry) (c c' : ℕ → Cell) → AreDistinct (nodes e) → Part e (t ++ x ∷ []) → Stands c e t → Goes c e x c' → Stands c' e (t ++ x ∷ [])
-  pub own : (e : Exec) (t : List Entry) → Part e t → only (nodes e) t ≡ t
+use Rattle.run_frames.proofs.DeedLemmas.{offers_there}
+use Rattle.run_frames.proofs.NumberLemmas.{numbered, renamed_same, entries_same, numbers_same, distinct_back, spread, spread_is, spread_once, place_with, entry_back, some_is}
+use Rattle.run_frames.proofs.NumberedLemmas.{numbered_down, place_found}
+use Rattle.run_frames.proofs.OrderLemmas.{Ascends, placed_ascends, part_ascends, part_within, find_least, find_nothing}
 
 -- the tree of the nodes
 abbrev pub tree : List BareNode → Exec
 tree nodes = tree_down nodes MAX_TREE_NESTING 0
+
+-- what is known of the nodes of a tree
+pub record AreOfTree (arena : List BareNode) : Type 0 where
+  pub shaped : AreShaped arena
+  pub named : AreNamed arena
+  pub preorder : numbers_in arena ≡ nodes (tree arena)
+  pub distinct : AreDistinct (nodes (tree arena))
+  pub choices : HasChoices (tree arena)
+
+-- what the laws of runs so far say
+parts : PartLaws
+parts = record {
+  none = λ e. part_nil e;
+  more = λ e t x d. (λ q. step_of e t x (apart e d) q, λ z. part_of_step e t x (apart e d) z.0 z.1);
+  is_next = λ e t x d p q. next_has e t x p (step_of e t x (apart e d) q).1;
+  follows = λ e t x m d p n h q. part_of_step e t x (apart e d) p (step_of_right e t x (apart e d) p h (continues e t x m (apart e d) p n h q));
+  offered = λ e t x m d q n. (let z = step_of e t x (apart e d) q in (next_has e t x z.0 z.1, offers e t x m (apart e d) z.0 z.1 n));
+}
 
 -- numbers for places, no two the same
 abbrev names : List BareNode → ℕ → ℕ
@@ -63,48 +86,86 @@ names_are arena m h = spread_is (number_at arena) (nodes (placed arena)) m h
 named : (arena : List BareNode) → renamed (names arena) (placed arena) ≡ tree arena
 named arena = renamed_same (names arena) (number_at arena) (placed arena) (names_are arena) ∙ numbered arena MAX_TREE_NESTING 0
 
-named_entries : FrameLaws → (arena : List BareNode) (f : Frames) (t : List Entry) (s : IsAt arena f t) → map (entry_renamed (names arena)) s.entries ≡ t
-named_entries laws arena f t s =
-    let own = laws.own (placed arena) s.entries s.part in
+named_entries : (arena : List BareNode) (f : Frames) (t : List Entry) (s : IsAt arena f t) → map (entry_renamed (names arena)) s.entries ≡ t
+named_entries arena f t s =
+    let own = only_all (nodes (placed arena)) s.entries (part_inside (placed arena) s.entries s.held.part) in
     ap (map (entry_renamed (names arena))) (sym own)
     ∙ (entries_same (names arena) (number_at arena) (nodes (placed arena)) s.entries (names_are arena) ∙ (ap (map (entry_renamed (number_at arena))) own ∙ s.same))
 
--- where the run can go on, by the frames
-pub next_is : FrameLaws → (arena : List BareNode) (f : Frames) (t : List Entry) → AreDistinct (nodes (tree arena)) → IsAt arena f t → next (tree arena) t ≡ map (number_at arena) (next_by (cells_of f.frames.items) (placed arena))
-next_is laws arena f t d s =
-    let c = cells_of f.frames.items in
-    let here = laws.goes_on (placed arena) s.entries c (placed_once arena d) s.part s.stands in
-    let there : next (tree arena) t ≡ map (names arena) (next (placed arena) s.entries) =
-    ap (λ (e : Exec). next e t) (sym (named arena)) ∙ (ap (next (renamed (names arena) (placed arena))) (sym (named_entries laws arena f t s)) ∙ next_map (names arena) (names_once arena d) (placed arena) s.entries) in
-    there ∙ (ap (map (names arena)) here ∙ numbers_same (names arena) (number_at arena) (nodes (placed arena)) (next_by c (placed arena)) (names_are arena) (λ m i. next_in c (placed arena) m i))
+-- ---- where the run can go on
 
--- what a node does next, by the frames
-pub offer_is : FrameLaws → (arena : List BareNode) (f : Frames) (t : List Entry) (p n : ℕ) → AreDistinct (nodes (tree arena)) → IsAt arena f t → has (next_by (cells_of f.frames.items) (placed arena)) p ≡ true → number_at arena p ≡ n
-    → offer (tree arena) t n ≡ offer_by (cells_of f.frames.items) (placed arena) p
-offer_is laws arena f t p n d s h e =
+pub next_inside : (arena : List BareNode) (t : List Entry) (p : ℕ) → AreDistinct (nodes (placed arena)) → has (next (placed arena) t) p ≡ true → has (nodes (placed arena)) p ≡ true
+next_inside arena t p d h = part_within (has (next (placed arena) t)) (nodes (placed arena)) (next (placed arena) t) p (next_is_in_preorder (placed arena) t d) h
+
+pub next_is : (arena : List BareNode) (f : Frames) (t : List Entry) → AreDistinct (nodes (tree arena)) → (s : IsAt arena f t) → next (tree arena) t ≡ map (number_at arena) (next (placed arena) s.entries)
+next_is arena f t d s =
+    let once = placed_once arena d in
+    ap (λ (e : Exec). next e t) (sym (named arena))
+    ∙ (ap (next (renamed (names arena) (placed arena))) (sym (named_entries arena f t s))
+    ∙ (next_map (names arena) (names_once arena d) (placed arena) s.entries
+    ∙ numbers_same (names arena) (number_at arena) (nodes (placed arena)) (next (placed arena) s.entries) (names_are arena) (λ m i. next_inside arena s.entries m once i)))
+
+ascending : (arena : List BareNode) (t : List Entry) → AreOfTree arena → Ascends 0 (next (placed arena) t)
+ascending arena t a =
+    let order = placed_ascends arena a.named (subst AreDistinct (sym a.preorder) a.distinct) (a.preorder ∙ mapped_nodes arena) in
+    part_ascends (has (next (placed arena) t)) (nodes (placed arena)) (next (placed arena) t) order (next_is_in_preorder (placed arena) t (placed_once arena a.distinct))
+
+-- the first place of the set is the first in the order of the tree
+pub first_is : (arena : List BareNode) (f : Frames) (t : List Entry) (test : ℕ → Bool) (found : Option ℕ) → AreOfTree arena → IsAt arena f t → MatchOption found (NoneAnswers (number_at arena) test f.set.all) (IsFirst (number_at arena) test f.set.all) → found ≡ find test (next (tree arena) t)
+first_is arena f t test None a s h =
+    let ns = next (placed arena) s.entries in
+    sym (ap (find test) (next_is arena f t a.distinct s) ∙ find_nothing (number_at arena) test ns (λ q i. h q (s.held.goes_on q ∙ i)))
+first_is arena f t test (Some n) a s h =
+    let ns = next (placed arena) s.entries in
+    ap (λ (m : ℕ). Some m) (sym h.is_number)
+    ∙ sym (ap (find test) (next_is arena f t a.distinct s)
+    ∙ find_least (number_at arena) test 0 ns h.place (ascending arena s.entries a) (sym (s.held.goes_on h.place) ∙ h.there) h.answers (λ q l i. h.before q l (s.held.goes_on q ∙ i)))
+
+-- ---- the place of a number
+
+-- where the run can go on at a number, that is the number of a place where it can, which is found
+pub record IsPlaceOf (arena : List BareNode) (t : List Entry) (n p : ℕ) : Type 0 where
+  pub is_next : has (next (placed arena) t) p ≡ true
+  pub inside : has (nodes (placed arena)) p ≡ true
+  pub is_number : number_at arena p ≡ n
+  pub found : place_from 0 arena n ≡ Some p
+
+pub place_of : (arena : List BareNode) (f : Frames) (t : List Entry) (n : ℕ) → AreOfTree arena → (s : IsAt arena f t) → has (next (tree arena) t) n ≡ true → (p : ℕ) × IsPlaceOf arena s.entries n p
+place_of arena f t n a s h =
+    let r = place_with (number_at arena) (next (placed arena) s.entries) n (subst (λ (l : List ℕ). has l n ≡ true) (next_is arena f t a.distinct s) h) in
+    let inside = next_inside arena s.entries r.0 (placed_once arena a.distinct) r.1 in
+    let found = place_found arena r.0 (numbered_down arena MAX_TREE_NESTING 0 r.0 a.named inside) (subst AreDistinct (sym a.preorder) a.distinct) in
+    (r.0, record { is_next = r.1; inside = inside; is_number = r.2; found = ap (place_from 0 arena) (sym r.2) ∙ found })
+
+-- what the node there does next
+pub offer_there_is : (arena : List BareNode) (f : Frames) (t : List Entry) (n p : ℕ) → AreOfTree arena → (s : IsAt arena f t) → IsPlaceOf arena s.entries n p → offer (tree arena) t n ≡ offer_there (slice_get arena p) (cells_of f.frames.items p)
+offer_there_is arena f t n p a s h =
     let c = cells_of f.frames.items in
-    let inside = next_in c (placed arena) p h in
-    let name : names arena p ≡ n = names_are arena p inside ∙ e in
-    let is_next : has (next (placed arena) s.entries) p ≡ true = subst (λ (l : List ℕ). has l p ≡ true) (sym (laws.goes_on (placed arena) s.entries c (placed_once arena d) s.part s.stands)) h in
+    let once = placed_once arena a.distinct in
+    let name : names arena p ≡ n = names_are arena p h.inside ∙ h.is_number in
     ap (λ (w : Exec). offer w t n) (sym (named arena))
-    ∙ (ap (λ (l : List Entry). offer (renamed (names arena) (placed arena)) l n) (sym (named_entries laws arena f t s))
+    ∙ (ap (λ (l : List Entry). offer (renamed (names arena) (placed arena)) l n) (sym (named_entries arena f t s))
     ∙ (ap (offer (renamed (names arena) (placed arena)) (map (entry_renamed (names arena)) s.entries)) (sym name)
-    ∙ (offer_map (names arena) (names_once arena d) (placed arena) s.entries p ∙ laws.does (placed arena) s.entries p c (placed_once arena d) s.part s.stands is_next)))
+    ∙ (offer_map (names arena) (names_once arena a.distinct) (placed arena) s.entries p
+    ∙ (offer_from_frames c (placed arena) s.entries p (apart (placed arena) once) s.held.part s.held.stands h.is_next ∙ offers_there arena c MAX_TREE_NESTING 0 p a.shaped once h.inside))))
+
+pub does_something : (arena : List BareNode) (f : Frames) (t : List Entry) (n p : ℕ) → AreOfTree arena → (s : IsAt arena f t) → has (next (tree arena) t) n ≡ true → IsPlaceOf arena s.entries n p → IsOpen (offer_there (slice_get arena p) (cells_of f.frames.items p))
+does_something arena f t n p a s i h = subst IsOpen (offer_there_is arena f t n p a s h) (opens (tree arena) t n (apart (tree arena) a.distinct) a.choices s.so_far i)
+
+-- ---- one entry more
 
 map_more : (r : ℕ → ℕ) (t : List Entry) (x : Entry) → map (entry_renamed r) (t ++ x ∷ []) ≡ map (entry_renamed r) t ++ entry_renamed r x ∷ []
 map_more r [] x = refl
 map_more r (y ∷ t) x = ap (λ (l : List Entry). entry_renamed r y ∷ l) (map_more r t x)
 
--- one entry more, as an entry of its place
-pub part_more : FrameLaws → PartLaws → (arena : List BareNode) (f : Frames) (t : List Entry) (x : Entry) (p n : ℕ) → AreDistinct (nodes (tree arena)) → (s : IsAt arena f t) → Part (tree arena) (t ++ x ∷ []) → has (nodes (placed arena)) p ≡ true → number_at arena p ≡ n → number_of x ≡ Some n
-    → Part (placed arena) (s.entries ++ entry_at p x ∷ [])
-part_more laws parts arena f t x p n d s q inside e k =
+part_more : (arena : List BareNode) (f : Frames) (t : List Entry) (x : Entry) (p n : ℕ) → AreOfTree arena → (s : IsAt arena f t) → Part (tree arena) (t ++ x ∷ []) → IsPlaceOf arena s.entries n p → number_of x ≡ Some n → Part (placed arena) (s.entries ++ entry_at p x ∷ [])
+part_more arena f t x p n a s q h k =
     let r = names arena in
-    let name : r p ≡ n = names_are arena p inside ∙ e in
+    let name : r p ≡ n = names_are arena p h.inside ∙ h.is_number in
     let back : entry_renamed r (entry_at p x) ≡ x = entry_back r p n x name k in
     let whole : map (entry_renamed r) (s.entries ++ entry_at p x ∷ []) ≡ t ++ x ∷ [] =
-    map_more r s.entries (entry_at p x) ∙ (ap (λ (l : List Entry). l ++ entry_renamed r (entry_at p x) ∷ []) (named_entries laws arena f t s) ∙ ap (λ (y : Entry). t ++ y ∷ []) back) in
-    part_back parts r (names_once arena d) (placed arena) (s.entries ++ entry_at p x ∷ []) (placed_once arena d) (subst (λ (l : List Entry). Part (renamed r (placed arena)) l) (sym whole) (subst (λ (w : Exec). Part w (t ++ x ∷ [])) (sym (named arena)) q))
+    map_more r s.entries (entry_at p x) ∙ (ap (λ (l : List Entry). l ++ entry_renamed r (entry_at p x) ∷ []) (named_entries arena f t s) ∙ ap (λ (y : Entry). t ++ y ∷ []) back) in
+    part_back parts r (names_once arena a.distinct) (placed arena) (s.entries ++ entry_at p x ∷ []) (placed_once arena a.distinct) (subst (λ (l : List Entry). Part (renamed r (placed arena)) l) (sym whole) (subst (λ (w : Exec). Part w (t ++ x ∷ [])) (sym (named arena)) q))
 
 number_here : (p n : ℕ) (x : Entry) → number_of x ≡ Some n → number_of (entry_at p x) ≡ Some p
 number_here p n x k = number_map (λ m. p) x ∙ ap (option_map (λ m. p)) k
@@ -136,95 +197,101 @@ in_order (Does j) x n e h = tt
 in_order Tests x n e h = tt
 in_order Nothing x n e h = tt
 
--- an entry that may follow, at the place where its number is found
-pub move_is : FrameLaws → PartLaws → (arena : List BareNode) (f : Frames) (t : List Entry) (x : Entry) (p n : ℕ) → AreDistinct (nodes (tree arena)) → IsAt arena f t → Part (tree arena) (t ++ x ∷ []) → IsNextOf (tree arena) t x
-    → has (next_by (cells_of f.frames.items) (placed arena)) p ≡ true → number_at arena p ≡ n → number_of x ≡ Some n → IsMove f.frames.items (placed arena) p x
-move_is laws parts arena f t x p n d s q o h e k =
-    let c = cells_of f.frames.items in
-    let inside = next_in c (placed arena) p h in
-    let more = part_more laws parts arena f t x p n d s q inside e k in
-    let is_next : has (next (placed arena) s.entries) p ≡ true = subst (λ (l : List ℕ). has l p ≡ true) (sym (laws.goes_on (placed arena) s.entries c (placed_once arena d) s.part s.stands)) h in
-    let same = laws.does (placed arena) s.entries p c (placed_once arena d) s.part s.stands is_next in
-    let offered = subst (λ (w : Offer). IsOffered w p (entry_at p x)) same (parts.offered (placed arena) s.entries (entry_at p x) p (placed_once arena d) more (number_here p n x k)).1 in
-    let there = offer_is laws arena f t p n d s h e in
-    record {
-      leads = s.leads;
-      is_next = h;
-      offered = offered;
-      in_order = in_order (offer_by c (placed arena) p) x n k (λ j w. (let r = o n j w in (r.0, sym there ∙ r.1)));
-    }
-
--- and the frames that have moved by it stand for the entries with it
-pub stands_more : FrameLaws → PartLaws → (arena : List BareNode) (f g : Frames) (t : List Entry) (x : Entry) (p n : ℕ) (on : Bool) → AreDistinct (nodes (tree arena)) → (s : IsAt arena f t) → Part (tree arena) (t ++ x ∷ []) → has (next_by (cells_of f.frames.items) (placed arena)) p ≡ true
-    → number_at arena p ≡ n → number_of x ≡ Some n → IsMoved f.frames.items g.frames.items (placed arena) p x on → IsAt arena g (t ++ x ∷ [])
-stands_more laws parts arena f g t x p n on d s q h e k moved =
-    let c = cells_of f.frames.items in
-    let inside = next_in c (placed arena) p h in
-    let more = part_more laws parts arena f t x p n d s q inside e k in
-    let back : entry_renamed (number_at arena) (entry_at p x) ≡ x = entry_back (number_at arena) p n x e k in
-    record {
-      so_far = q;
-      entries = s.entries ++ entry_at p x ∷ [];
-      same = map_more (number_at arena) s.entries (entry_at p x) ∙ (ap (λ (l : List Entry). l ++ entry_renamed (number_at arena) (entry_at p x) ∷ []) s.same ∙ ap (λ (y : Entry). t ++ y ∷ []) back);
-      part = more;
-      stands = laws.moved (placed arena) s.entries (entry_at p x) c (cells_of g.frames.items) (placed_once arena d) more s.stands moved.moved;
-      leads = moved.leads;
-      room = moved.long ∙ s.room;
-    }
-
--- frames of the whole tree, opened
-pub stands_first : (arena : List BareNode) (old : List Frame) (g : Frames) (on : Bool) → ((e : Exec) → Part e []) → length old ≡ length arena → IsOpened old g.frames.items (placed arena) on → IsAt arena g []
-stands_first arena old g on none l opened = record { so_far = none (tree arena); entries = []; same = refl; part = none (placed arena); stands = opened.stands; leads = opened.leads; room = opened.long ∙ l }
-
 -- an entry of a run so far has a number where the run can go on
-pub entry_there : FrameLaws → PartLaws → (arena : List BareNode) (f : Frames) (t : List Entry) (x : Entry) (n : ℕ) → AreDistinct (nodes (tree arena)) → IsAt arena f t → Part (tree arena) (t ++ x ∷ []) → number_of x ≡ Some n
-    → has (map (number_at arena) (next_by (cells_of f.frames.items) (placed arena))) n ≡ true
-entry_there laws parts arena f t x n d s q k =
-    let h = (parts.offered (tree arena) t x n d q k).0 in
-    subst (λ (l : List ℕ). has l n ≡ true) (next_is laws arena f t d s) (sym (ap (of.has_some (next (tree arena) t)) k) ∙ h)
+pub entry_next : (arena : List BareNode) (t : List Entry) (x : Entry) (n : ℕ) → AreDistinct (nodes (tree arena)) → Part (tree arena) (t ++ x ∷ []) → number_of x ≡ Some n → has (next (tree arena) t) n ≡ true
+entry_next arena t x n d q k = sym (ap (of.has_some (next (tree arena) t)) k) ∙ (parts.offered (tree arena) t x n d q k).0
 
-pub numbered_entry : PartLaws → (arena : List BareNode) (t : List Entry) (x : Entry) → AreDistinct (nodes (tree arena)) → Part (tree arena) (t ++ x ∷ []) → number_of x ≡ None → ⊥
-numbered_entry parts arena t x d q k =
+pub numbered_entry : (arena : List BareNode) (t : List Entry) (x : Entry) → AreDistinct (nodes (tree arena)) → Part (tree arena) (t ++ x ∷ []) → number_of x ≡ None → ⊥
+numbered_entry arena t x d q k =
     let p = ((parts.more (tree arena) t x d).0 q).0 in
     let h = parts.is_next (tree arena) t x d p q in
     let f : is_of (next (tree arena) t) x ≡ false = ap (of.has_some (next (tree arena) t)) k in
     (let w : true ≡ false = sym h ∙ f in cc)
 
--- ---- what a search tells
-
--- what is said over some nodes and frames is said over the same by other names
-pub said_of : (P : List BareNode → List Frame → Type 0) (a b : List BareNode) (f g : List Frame) → a ≡ b → f ≡ g → P a f → P b g
-said_of P a b f g e h p = subst (λ (w : List Frame). P b w) h (subst (λ (w : List BareNode). P w f) e p)
-
-pub find_is : FrameLaws → (arena : List BareNode) (f : Frames) (t : List Entry) (test : ℕ → Bool) (s : Search) → AreDistinct (nodes (tree arena)) → IsAt arena f t → s ≡ searched (λ p. test (number_at arena p)) (next_by (cells_of f.frames.items) (placed arena))
-    → found_number (number_at arena) s ≡ find test (next (tree arena) t)
-find_is laws arena f t test s d at e =
-    ap (found_number (number_at arena)) e ∙ (sym (found_first (number_at arena) test (next_by (cells_of f.frames.items) (placed arena))) ∙ ap (find test) (sym (next_is laws arena f t d at)))
-
-pub missed_is_none : (r : ℕ → ℕ) (s : Search) → ((p : ℕ) → s ≡ Found p → ⊥) → None ≡ found_number r s
-missed_is_none r Nowhere h = refl
-missed_is_none r Passed h = refl
-missed_is_none r (Found p) h = absurd (h p refl)
-
--- the place of a number where the run can go on is found
-pub place_is_found : FrameLaws → (arena : List BareNode) (f : Frames) (t : List Entry) (n : ℕ) (s : Search) → AreDistinct (nodes (tree arena)) → IsAt arena f t → has (next (tree arena) t) n ≡ true → s ≡ searched (λ p. number_at arena p == n) (next_by (cells_of f.frames.items) (placed arena))
-    → (p : ℕ) × (s ≡ Found p)
-place_is_found laws arena f t n s d at h e =
-    let r = found_there (number_at arena) (next_by (cells_of f.frames.items) (placed arena)) n (subst (λ (l : List ℕ). has l n ≡ true) (next_is laws arena f t d at) h) in
-    (r.0, e ∙ r.1)
-
--- a place that is found is one where the run can go on, and has the number
-pub found_place_is : (arena : List BareNode) (f : List Frame) (n p : ℕ) (s : Search) → s ≡ searched (λ q. number_at arena q == n) (next_by (cells_of f) (placed arena)) → s ≡ Found p → (has (next_by (cells_of f) (placed arena)) p ≡ true) × (number_at arena p ≡ n)
-found_place_is arena f n p s e h =
-    let r = found_is (λ q. number_at arena q == n) (next_by (cells_of f) (placed arena)) p (sym e ∙ h) in
-    (r.0, same_number (number_at arena p) n r.1)
-
--- what the node at a place that is found does next, and that it does something
-pub deed_is : FrameLaws → ((e : Exec) (t : List Entry) (m : ℕ) → AreDistinct (nodes e) → HasChoices e → Part e t → has (next e t) m ≡ true → IsOpen (offer e t m)) → (arena : List BareNode) (f : Frames) (t : List Entry) (p n : ℕ) → AreShaped arena → AreDistinct (nodes (tree arena)) → HasChoices (tree arena)
-    → IsAt arena f t → has (next (tree arena) t) n ≡ true → has (next_by (cells_of f.frames.items) (placed arena)) p ≡ true → number_at arena p ≡ n
-    → (offer (tree arena) t n ≡ offer_there (slice_get arena p) (cells_of f.frames.items p)) × IsOpen (offer_there (slice_get arena p) (cells_of f.frames.items p))
-deed_is laws opens arena f t p n shaped d choices at h i e =
+-- an entry that may follow is what the node at its number's place does next
+pub step_by : (arena : List BareNode) (f : Frames) (t : List Entry) (x : Entry) (p n : ℕ) → AreOfTree arena → (s : IsAt arena f t) → Part (tree arena) (t ++ x ∷ []) → IsInOrder (offer_there (slice_get arena p) (cells_of f.frames.items p)) x → IsPlaceOf arena s.entries n p → number_of x ≡ Some n → IsStep arena f.frames.items f.set.all s.entries p x
+step_by arena f t x p n a s q o h k =
     let c = cells_of f.frames.items in
-    let there = offers_there arena c MAX_TREE_NESTING 0 p shaped (placed_once arena d) (next_in c (placed arena) p i) in
-    let all = offer_is laws arena f t p n d at i e ∙ there in
-    (all, subst IsOpen all (opens (tree arena) t n d choices at.so_far h))
+    let once = placed_once arena a.distinct in
+    let more = part_more arena f t x p n a s q h k in
+    let own : offer (placed arena) s.entries p ≡ offer_there (slice_get arena p) (c p) =
+    offer_from_frames c (placed arena) s.entries p (apart (placed arena) once) s.held.part s.held.stands h.is_next ∙ offers_there arena c MAX_TREE_NESTING 0 p a.shaped once h.inside in
+    record {
+      held = s.held;
+      part = more;
+      number = number_here p n x k;
+      inside = h.inside;
+      is_next = h.is_next;
+      offered = subst (λ (w : Offer). IsOffered w p (entry_at p x)) own (parts.offered (placed arena) s.entries (entry_at p x) p once more (number_here p n x k)).1;
+      in_order = o;
+    }
+
+pub order_is : (arena : List BareNode) (f : Frames) (t : List Entry) (x : Entry) (p n : ℕ) → AreOfTree arena → (s : IsAt arena f t) → IsNextOf (tree arena) t x → IsPlaceOf arena s.entries n p → number_of x ≡ Some n → IsInOrder (offer_there (slice_get arena p) (cells_of f.frames.items p)) x
+order_is arena f t x p n a s o h k =
+    let there = offer_there_is arena f t n p a s h in
+    in_order (offer_there (slice_get arena p) (cells_of f.frames.items p)) x n k (λ j w. (let r = o n j w in (r.0, sym there ∙ r.1)))
+
+-- and what holds of places then holds of numbers
+pub at_more : (arena : List BareNode) (f g : Frames) (t : List Entry) (x : Entry) (p n : ℕ) → (s : IsAt arena f t) → Part (tree arena) (t ++ x ∷ []) → IsPlaceOf arena s.entries n p → number_of x ≡ Some n → IsHeld arena g.frames.items g.set.all (s.entries ++ entry_at p x ∷ []) → IsTable arena g.table.rows.items → length g.set.classes ≡ length arena → IsAt arena g (t ++ x ∷ [])
+at_more arena f g t x p n s q h k held table classed =
+    let back : entry_renamed (number_at arena) (entry_at p x) ≡ x = entry_back (number_at arena) p n x h.is_number k in
+    record {
+      so_far = q;
+      entries = s.entries ++ entry_at p x ∷ [];
+      same = map_more (number_at arena) s.entries (entry_at p x) ∙ (ap (λ (l : List Entry). l ++ entry_renamed (number_at arena) (entry_at p x) ∷ []) s.same ∙ ap (λ (y : Entry). t ++ y ∷ []) back);
+      held = held;
+      table = table;
+      classed = classed;
+    }
+
+-- where the places and the frames are the same, the frames stand for the same entries
+pub at_same : (arena : List BareNode) (f g : Frames) (t : List Entry) → IsAt arena f t → g.frames ≡ f.frames → g.table ≡ f.table → g.set.all ≡ f.set.all → length g.set.classes ≡ length arena → IsAt arena g t
+at_same arena f g t s frames table all classed = record {
+  so_far = s.so_far;
+  entries = s.entries;
+  same = s.same;
+  held = subst (λ (w : List ℕ). IsHeld arena g.frames.items w s.entries) (sym all) (subst (λ (v : Vec Frame). IsHeld arena v.items f.set.all s.entries) (sym frames) s.held);
+  table = subst (λ (w : Table). IsTable arena w.rows.items) (sym table) s.table;
+  classed = classed;
+}
+
+-- frames of the whole tree, opened
+pub at_first : (arena : List BareNode) (old : List Frame) (before : List ℕ) (g : Frames) → length old ≡ length arena → ((q : ℕ) → holds before q ≡ false) → IsEntered arena old g.frames.items before g.set.all (placed arena) → IsTable arena g.table.rows.items → length g.set.classes ≡ length arena → IsAt arena g []
+at_first arena old before g l none opened table classed = record {
+  so_far = part_nil (tree arena);
+  entries = [];
+  same = refl;
+  held = record {
+    part = part_nil (placed arena);
+    stands = opened.stands;
+    unpicked = opened.unpicked;
+    room = opened.long ∙ l;
+    goes_on = λ q. opened.came q ∙ ap (λ (b : Bool). b || has (next (placed arena) []) q) (none q);
+  };
+  table = table;
+  classed = classed;
+}
+
+-- ---- the place that the tree tells of a number
+
+pub place_is_of : (arena : List BareNode) (f : Frames) (t : List Entry) (n p : ℕ) (found : Option ℕ) → AreOfTree arena → (s : IsAt arena f t) → has (next (tree arena) t) n ≡ true → found ≡ place_from 0 arena n → found ≡ Some p → IsPlaceOf arena s.entries n p
+place_is_of arena f t n p found a s h e i =
+    let r = place_of arena f t n a s h in
+    let same : r.0 ≡ p = some_is r.0 p (sym r.1.found ∙ (sym e ∙ i)) in
+    subst (λ (q : ℕ). IsPlaceOf arena s.entries n q) same r.1
+
+pub place_is_there : (arena : List BareNode) (f : Frames) (t : List Entry) (n : ℕ) (found : Option ℕ) → AreOfTree arena → IsAt arena f t → has (next (tree arena) t) n ≡ true → found ≡ place_from 0 arena n → found ≡ None → ⊥
+place_is_there arena f t n found a s h e i =
+    let r = place_of arena f t n a s h in
+    no_some r.0 (sym i ∙ (e ∙ r.1.found))
+  where
+    no_some : (p : ℕ) → None ≡ Some p → ⊥
+    no_some p w = cc
+
+pub node_is_there : (arena : List BareNode) (t : List Entry) (n p : ℕ) → AreOfTree arena → IsPlaceOf arena t n p → slice_get arena p ≡ None → ⊥
+node_is_there arena t n p a h none =
+    let s = numbered_down arena MAX_TREE_NESTING 0 p a.named h.inside in
+    no_some s.node (sym none ∙ s.at)
+  where
+    no_some : (node : BareNode) → None ≡ Some node → ⊥
+    no_some node w = cc

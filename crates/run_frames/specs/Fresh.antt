@@ -1,5 +1,4 @@
--- What stands at an executable before any entry, and whether it goes on.
-use Rattle.std.specs.Prelude.{ℕ, ◌==◌, Bool, true, not}
+-- What stands at an executable before any entry.
 use Rattle.exec_tree.specs.declared.kind.Kind.{Kind}
 use Rattle.exec_tree.specs.declared.kind.Kind.TheVariants as kind
 use Rattle.run_frames.specs.declared.frame.Frame.{Frame}
@@ -13,8 +12,3 @@ fresh kind.Sel = PickedFirst 0
 fresh kind.If = Asks
 fresh kind.While = Asks
 fresh _ = Fresh
-
--- whether it goes on at first, with so many elements
-abbrev pub goes_at_first : Kind → ℕ → Bool
-goes_at_first kind.NonSeq count = not (count == 0)
-goes_at_first _ count = true

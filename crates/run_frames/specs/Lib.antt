@@ -1,9 +1,13 @@
 pub mod Deeds
 pub mod Frames
-pub mod Search
 pub mod Renaming
-pub mod Opened
 pub mod Fresh
-pub mod Moved
 pub mod Entries
+pub mod Entered
+pub mod Ways
+pub mod OfferAt
+pub mod Held
+pub mod First
 pub mod Standing
+pub mod Waits
+pub mod Ready

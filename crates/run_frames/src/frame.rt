@@ -1,7 +1,10 @@
 //! What is kept of a node.
 
 ghost use Rattle.std.specs.Prelude.{◌≡◌};
-ghost use Rattle.run_frames.specs.Frames.{frame_at, skipped, picked_by, answered_by, left_in};
+ghost use Rattle.run_frames.specs.Frames.{frame_at, picked_by, left_in};
+ghost use Rattle.run_frames.specs.Fresh.{fresh};
+
+use exec_tree::Kind;
 
 /// What a node has in its present turn.
 #[derive(Clone, Copy, Debug, PartialEq, Eq)]
@@ -22,8 +25,18 @@ pub enum Frame {
     Answered(bool),
     /// A parallel of which so many elements go on.
     Left(usize),
-    /// A workplan of which so many elements are over.
-    At(usize),
+}
+
+/// The frame of an executable that isn't come to.
+pub fn fresh(kind: Kind) -> Frame
+    ensures { result ≡ fresh kind }
+{
+    match kind {
+        Kind::Work => Frame::Starts,
+        Kind::NonSeq | Kind::Sel => Frame::PickedFirst(0),
+        Kind::If | Kind::While => Frame::Asks,
+        _ => Frame::Fresh,
+    }
 }
 
 /// The frame at a place.
@@ -36,16 +49,6 @@ pub fn frame_at(frames: &[Frame], place: u32) -> Frame
     }
 }
 
-/// How many elements of a workplan its frame says to be over.
-pub fn skipped(frame: Frame) -> usize
-    ensures { result ≡ skipped frame }
-{
-    match frame {
-        Frame::At(k) => k,
-        _ => 0,
-    }
-}
-
 /// How many elements its frame says to be picked.
 pub fn picked_by(frame: Frame) -> usize
     ensures { result ≡ picked_by frame }
@@ -53,16 +56,6 @@ pub fn picked_by(frame: Frame) -> usize
     match frame {
         Frame::PickedFirst(k) => k,
         _ => 0,
-    }
-}
-
-/// The answer of the last test.
-pub fn answered_by(frame: Frame) -> Option<bool>
-    ensures { result ≡ answered_by frame }
-{
-    match frame {
-        Frame::Answered(answer) => Some(answer),
-        _ => None,
     }
 }
 

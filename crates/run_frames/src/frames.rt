@@ -1,32 +1,44 @@
 //! The frames of a run.
 
-ghost use Rattle.std.specs.Prelude.{◌≡◌, ◌≢◌, ◌∷◌, ◌++◌, [], ℕ, Bool, List, true, IfOk, find, length};
-ghost use Rattle.exec_tree.specs.Exec.{has};
+ghost use Rattle.std.specs.Prelude.{◌≡◌, ◌≢◌, ◌<◌, ◌∷◌, ◌++◌, [], ℕ, Bool, List, true, false, IfOk, MatchOption, find, length, map};
+ghost use Rattle.std.specs.List.{list_all};
+ghost use Rattle.exec_tree.specs.Exec.{has, nodes};
+ghost use Rattle.exec_tree.specs.Built.{channel_in, role_in};
+ghost use Rattle.exec_tree.specs.declared.limits.TheConstants.{MAX_CHANNELS};
+ghost use Rattle.place_set.specs.declared.set.TheConstants.{MAX_PLACES};
+ghost use Rattle.exec_tree.specs.Said.{bare_of};
 ghost use Rattle.exec_tree.specs.declared.kind.Kind.TheVariants as kinds;
+ghost use Rattle.exec_tree.specs.declared.node.BareNode.{BareNode};
 ghost use Rattle.trace_law.specs.Below.{tree_in};
 ghost use Rattle.trace_law.specs.Next.{next};
 ghost use Rattle.trace_law.specs.Offer.{offer};
 ghost use Rattle.trace_law.specs.Part.{Part};
 ghost use Rattle.run_log.specs.declared.entry.Entry.{Entry};
+ghost use Rattle.tree_table.specs.Placed.{number_at};
 ghost use Rattle.run_frames.specs.Deeds.{deed_offer};
-ghost use Rattle.run_frames.specs.Standing.{IsAt, IsNextOf, offer_at};
+ghost use Rattle.run_frames.specs.Entered.{AreUnpickedIn};
+ghost use Rattle.run_frames.specs.First.{NoneAnswers, IsFirst};
 ghost use Rattle.run_frames.specs.Frames.{told};
+ghost use Rattle.run_frames.specs.OfferAt.{offer_at};
+ghost use Rattle.run_frames.specs.Standing.{IsAt, IsNextOf};
+ghost use Rattle.place_classes.specs.Classes.{IsClass, class_at};
+ghost use Rattle.run_frames.specs.Ready.{IsSorted, AreClasses, is_ready, waits_by, opens, class_in, classes_when, classes_after};
+ghost use Rattle.exec_tree.specs.declared.role.Role.TheVariants as role;
 
-use crate::advance::advance_down;
 use crate::deed::Deed;
+use crate::entering::enter_tree;
 use crate::entries::entry_number;
 use crate::frame::{Frame, frame_at, picked_by};
+use crate::moving::move_at;
 use crate::nodes::{node_at, number_at};
-use crate::opening::open_down;
-use crate::search::{PlaceQuestion, Search, search_down};
-use exec_tree::{Kind, MAX_TREE_NESTING, Node, Tree};
+use crate::waits::Waits;
+use exec_tree::laws::places_are_found;
+use exec_tree::{Kind, MAX_CHANNELS, Node, Role, Tree};
 use nc_base::{NoMemory, Number};
+use place_classes::{Class, Sorted};
 use run_log::Entry;
 use std::alloc::Global;
-use trace_law::laws::{
-    frames_follow, next_entry_is_of_next, part_by_steps, part_of_own_nodes, what_can_go_on_is_open,
-    what_is_offered_follows,
-};
+use tree_table::Table;
 
 /// A question that is asked of nodes by their numbers.
 pub trait Question {
@@ -38,49 +50,15 @@ pub trait Question {
         ensures { result ≡ answer self.now n };
 }
 
-/// Where a run stands in its tree: of each node to which it has come what that has in its present turn. What frames stand for is told by
-/// `IsAt`. The picks of the run are made in order.
+/// Where a run stands in its tree: of each node to which it has come what that has in its present turn, and all nodes where it can go on,
+/// with the table of the tree, which tells where a node leads and where the run goes on from it. What frames stand for is told by `IsAt`.
+/// The picks of the run are made in order.
 #[derive(Drop)]
 pub struct Frames {
     frames: Vec<Frame>,
-}
-
-/// The question of a number to the nodes of a tree.
-#[derive(Drop)]
-struct HasNumber<'a> {
-    arena: &'a [Node],
-    number: Number,
-}
-
-impl PlaceQuestion for HasNumber<'_> {
-    ghost use Rattle.std.specs.Prelude.{◌==◌, map};
-    ghost use Rattle.exec_tree.specs.Said.{bare_of};
-    ghost use Rattle.tree_table.specs.Placed.{number_at};
-
-    ghost says = { λ q place. number_at (map bare_of q.arena.now) place == q.number };
-
-    fn says(&self, place: u32) -> bool {
-        number_at(self.arena, place) == self.number
-    }
-}
-
-/// A question of numbers, asked of the nodes of a tree by their places.
-#[derive(Drop)]
-struct ByNumber<'a, Q: Question> {
-    arena: &'a [Node],
-    question: &'a Q,
-}
-
-impl<Q: Question> PlaceQuestion for ByNumber<'_, Q> {
-    ghost use Rattle.std.specs.Prelude.{map};
-    ghost use Rattle.exec_tree.specs.Said.{bare_of};
-    ghost use Rattle.tree_table.specs.Placed.{number_at};
-
-    ghost says = { λ q place. Q.answer q.question.now (number_at (map bare_of q.arena.now) place) };
-
-    fn says(&self, place: u32) -> bool {
-        self.question.asks(number_at(self.arena, place))
-    }
+    table: Table,
+    set: Sorted,
+    waits: Waits,
 }
 
 /// What a node of this kind does next, with so many elements, by its frame. A workplan or a parallel does nothing itself.
@@ -107,30 +85,54 @@ fn deed_at(kind: Kind, frame: Frame, count: u32) -> Deed
     }
 }
 
-/// A frame for each of so many nodes.
+/// A frame for each of so many nodes, none with picks.
 fn blank(alloc: Global, count: usize) -> Result<Vec<Frame>, NoMemory>
-    ensures { IfOk result (λ frames. length frames.items ≡ count) }
+    ensures long { IfOk result (λ frames. length frames.items ≡ count) }
+    ensures unpicked { IfOk result (λ frames. (arena : List BareNode) → length arena ≡ count → AreUnpickedIn arena frames.items) }
 {
     let mut frames = Vec::with_capacity(alloc, count)?;
     for _i in 0..count {
-        frames.push(Frame::Over)?;
+        frames.push(Frame::PickedFirst(0))?;
     }
     Ok(frames)
+}
+
+/// The number at the first place of the set at which the answer is yes.
+fn first_with<Q: Question>(arena: &[Node], set: &Sorted, question: &Q) -> Option<Number>
+    ensures { MatchOption result (NoneAnswers (number_at (map bare_of arena.now)) (Q.answer question.now) set.now.all) (IsFirst (number_at (map bare_of arena.now)) (Q.answer question.now) set.now.all) }
+{
+    let mut from = 0;
+    while let Some(place) = set.first_from(from) {
+        let number = number_at(arena, place);
+        if question.asks(number) {
+            return Some(number);
+        }
+        from = place + 1;
+    }
+    None
 }
 
 impl Frames {
     /// The frames of a run that has no entry yet.
     ///
     /// # Errors
-    /// `NoMemory` where there is none for a frame of each node.
+    /// `NoMemory` where there is none for a frame and a row of each node.
     pub fn open(alloc: Global, tree: &Tree) -> Result<Frames, NoMemory>
-        ensures { IfOk result (λ f. IsAt tree.now.nodes f []) }
+        ensures at { IfOk result (λ f. IsAt tree.now.nodes f []) }
+        ensures sorted { IfOk result (λ f. IsSorted tree.now f [] []) }
     {
-        part_by_steps();
         let arena = tree.nodes();
+        let table = Table::new(alloc, tree)?;
         let mut frames = blank(alloc, arena.len())?;
-        open_down(arena, frames.as_mut_slice(), MAX_TREE_NESTING, 0);
-        Ok(Frames { frames })
+        let mut set = Sorted::new(alloc, first_classes(alloc, tree)?)?;
+        let waits = Waits::new(alloc, tree)?;
+        enter_tree(arena, &table, frames.as_mut_slice(), &mut set);
+        Ok(Frames {
+            frames,
+            table,
+            set,
+            waits,
+        })
     }
 
     /// The first node, in the order of the tree, where the run can go on and for which the answer is yes.
@@ -138,14 +140,7 @@ impl Frames {
         requires { (t : List Entry) × IsAt tree.now.nodes self.now t }
         ensures { (t : List Entry) → IsAt tree.now.nodes self.now t → result ≡ find (Q.answer question.now) (next (tree_in tree.now) t) }
     {
-        frames_follow();
-        part_of_own_nodes();
-        let arena = tree.nodes();
-        let by_number = ByNumber { arena, question };
-        match search_down(arena, &self.frames, &by_number, MAX_TREE_NESTING, 0) {
-            Search::Found(place) => Some(number_at(arena, place)),
-            _ => None,
-        }
+        first_with(tree.nodes(), &self.set, question)
     }
 
     /// What a node does next where the run can go on.
@@ -153,13 +148,8 @@ impl Frames {
         requires { (t : List Entry) × IsAt tree.now.nodes self.now t × (has (next (tree_in tree.now) t) n ≡ true) }
         ensures { (t : List Entry) → IsAt tree.now.nodes self.now t → has (next (tree_in tree.now) t) n ≡ true → deed_offer result ≡ offer (tree_in tree.now) t n }
     {
-        frames_follow();
-        part_of_own_nodes();
-        what_can_go_on_is_open();
         let arena = tree.nodes();
-        let question = HasNumber { arena, number: n };
-        let Search::Found(place) = search_down(arena, &self.frames, &question, MAX_TREE_NESTING, 0)
-        else {
+        let Some(place) = tree.place_of(n) else {
             return Deed::Notes;
         };
         let Some(node) = node_at(arena, place) else {
@@ -175,29 +165,136 @@ impl Frames {
     /// Moves the frames by an entry with which the run is still a run so far. A pick takes the least index that is left. It takes no memory.
     pub fn advance(&mut self, tree: &Tree, entry: &Entry)
         requires { (t : List Entry) × IsAt tree.now.nodes self.old t × Part (tree_in tree.now) (t ++ entry.now ∷ []) × IsNextOf (tree_in tree.now) t entry.now }
-        ensures { (t : List Entry) → IsAt tree.now.nodes self.old t → Part (tree_in tree.now) (t ++ entry.now ∷ []) → IsAt tree.now.nodes self.new (t ++ entry.now ∷ []) }
+        ensures at { (t : List Entry) → IsAt tree.now.nodes self.old t → Part (tree_in tree.now) (t ++ entry.now ∷ []) → IsAt tree.now.nodes self.new (t ++ entry.now ∷ []) }
+        ensures sorted { (t : List Entry) (released : List ℕ) → IsAt tree.now.nodes self.old t → Part (tree_in tree.now) (t ++ entry.now ∷ []) → IsSorted tree.now self.old t released → IsSorted tree.now self.new (t ++ entry.now ∷ []) released }
     {
-        frames_follow();
-        part_of_own_nodes();
-        part_by_steps();
-        next_entry_is_of_next();
-        what_is_offered_follows();
         let arena = tree.nodes();
         let Some(number) = entry_number(entry) else {
             return;
         };
-        let question = HasNumber { arena, number };
-        let Search::Found(place) = search_down(arena, &self.frames, &question, MAX_TREE_NESTING, 0)
-        else {
+        let Some(place) = tree.place_of(number) else {
             return;
         };
-        advance_down(
+        move_at(
             arena,
+            &self.table,
             self.frames.as_mut_slice(),
-            MAX_TREE_NESTING,
-            0,
+            &mut self.set,
             place,
             entry,
         );
+        sort_by(&mut self.set, tree, number, place, entry);
+    }
+
+    /// The mark of this number is set for the first time: the waits for it may go on. It looks at no other node.
+    pub fn release(&mut self, tree: &Tree, mark: Number)
+        requires at { (t : List Entry) × (released : List ℕ) × IsAt tree.now.nodes self.old t × IsSorted tree.now self.old t released }
+        requires mark { has (nodes (tree_in tree.now)) mark ≡ true }
+        ensures at { (t : List Entry) → IsAt tree.now.nodes self.old t → IsAt tree.now.nodes self.new t }
+        ensures sorted { (t : List Entry) (released : List ℕ) → IsAt tree.now.nodes self.old t → IsSorted tree.now self.old t released → IsSorted tree.now self.new t (released ++ mark ∷ []) }
+    {
+        places_are_found();
+        tree.nodes();
+        if let Some(place) = tree.place_of(mark) {
+            self.waits.free(&mut self.set, tree, place);
+        }
+    }
+
+    /// The first node of a channel, in the order of the tree, where the run can go on and that may go on now: a step that is open, or any of the
+    /// channel where that is idle, a wait whose mark was released, any other node. It looks at two sets, however many nodes there are.
+    pub fn ready(&self, tree: &Tree, channel: u8, idle: bool) -> Option<Number>
+        requires channel { channel < MAX_CHANNELS }
+        requires at { (t : List Entry) × (released : List ℕ) × IsAt tree.now.nodes self.now t × IsSorted tree.now self.now t released }
+        ensures { (t : List Entry) (released : List ℕ) → IsAt tree.now.nodes self.now t → IsSorted tree.now self.now t released → result ≡ find (is_ready tree.now t released channel idle) (next (tree_in tree.now) t) }
+    {
+        let arena = tree.nodes();
+        match self.set.first_in_channel(channel, idle) {
+            Some(place) => Some(number_at(arena, place)),
+            None => None,
+        }
+    }
+
+    /// Whether each node where the run can go on waits for a mark that wasn't released.
+    pub fn all_wait(&self, tree: &Tree) -> bool
+        requires channels { (n : ℕ) → channel_in tree.now.nodes n < MAX_CHANNELS }
+        requires at { (t : List Entry) × (released : List ℕ) × IsAt tree.now.nodes self.now t × IsSorted tree.now self.now t released }
+        ensures { (t : List Entry) (released : List ℕ) → IsAt tree.now.nodes self.now t → IsSorted tree.now self.now t released → result ≡ list_all (λ n. waits_by (role_in tree.now n) released) (next (tree_in tree.now) t) }
+    {
+        tree.nodes();
+        self.set.are_shut()
+    }
+}
+
+/// The class of each node of a tree before any entry, by place.
+fn first_classes(alloc: Global, tree: &Tree) -> Result<Vec<Class>, NoMemory>
+    ensures long { IfOk result (λ classes. length classes.items ≡ length tree.now.nodes) }
+    ensures each { IfOk result (λ classes. AreClasses tree.now [] [] classes.items) }
+    ensures one { IfOk result (λ classes. (q : ℕ) → IsClass (class_at classes.items q)) }
+{
+    let arena = tree.nodes();
+    let mut classes = Vec::with_capacity(alloc, arena.len())?;
+    for place in 0..tree.len() {
+        let number = number_at(arena, place);
+        classes.push(first_class(tree.role(number), tree.channel(number)))?;
+    }
+    Ok(classes)
+}
+
+/// Whether a workingstep is open after this entry of it; none where the entry says nothing of that.
+fn opens(entry: &Entry) -> Option<bool>
+    ensures { result ≡ opens entry.now }
+{
+    match *entry {
+        Entry::Dispatch { .. } => Some(true),
+        Entry::End { .. } => Some(false),
+        _ => None,
+    }
+}
+
+/// Says the class of an entry's node after the entry: a workingstep's changes where it is dispatched or ends.
+fn sort_by(set: &mut Sorted, tree: &Tree, number: Number, place: u32, entry: &Entry)
+    requires there { place < length set.old.classes }
+    requires within { place < MAX_PLACES }
+    ensures all { set.new.all ≡ set.old.all }
+    ensures classes { set.new.classes ≡ classes_after tree.now entry.now number place set.old.classes }
+{
+    let Some(started) = opens(entry) else {
+        return;
+    };
+    match tree.role(number) {
+        Role::Cutting => sort_step(set, tree.channel(number), place, started),
+        _ => {}
+    }
+}
+
+/// Says the class of the workingstep at a place of a channel, open or not.
+fn sort_step(set: &mut Sorted, channel: u8, place: u32, started: bool)
+    requires there { place < length set.old.classes }
+    requires within { place < MAX_PLACES }
+    ensures all { set.new.all ≡ set.old.all }
+    ensures classes { set.new.classes ≡ classes_when role.Cutting channel place set.old.classes started }
+{
+    if channel >= MAX_CHANNELS {
+        return;
+    }
+    if started {
+        set.sort(place, Class::Free(channel));
+    } else {
+        set.sort(place, Class::Idle(channel));
+    }
+}
+
+/// The class of a node of this role and channel before any entry. No tree has more channels than there are sets for.
+fn first_class(role: Role, channel: u8) -> Class
+    ensures same { result ≡ class_in role channel false [] }
+    ensures one { IsClass result }
+{
+    if channel >= MAX_CHANNELS {
+        return Class::Shut;
+    }
+    match role {
+        Role::Cutting => Class::Idle(channel),
+        Role::Waiting(_) => Class::Shut,
+        Role::Free => Class::Free(channel),
     }
 }

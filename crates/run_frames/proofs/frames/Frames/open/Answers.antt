@@ -1,24 +1,43 @@
-use Rattle.std.proofs.Common.{◌∙◌, ap, sym, subst, List, length}
-use Rattle.run_frames.specs.declared.frame.Frame.{Frame}
-use Rattle.run_frames.specs.Opened.{IsOpened}
+use Rattle.std.proofs.Common.{[], ◌∙◌, ap, sym, subst, List, length, map}
 use Rattle.std.specs.Vec.{with_items}
-use Rattle.run_frames.proofs.WriteLemmas.{refilled}
-use Rattle.run_frames.proofs.PlacedLemmas.{length_map}
 use Rattle.exec_tree.specs.Exec.{AreDistinct, nodes}
-use Rattle.exec_tree.specs.declared.node.BareNode.{BareNode}
 use Rattle.exec_tree.specs.Said.{bare_of}
+use Rattle.exec_tree.specs.declared.node.BareNode.{BareNode}
 use Rattle.tree_table.specs.Placed.{placed}
-use Rattle.run_frames.proofs.StandLemmas.{placed_once, stands_first}
+use Rattle.tree_table.specs.Table.{IsTable}
+use Rattle.tree_table.proofs.PlacedLemmas.{length_map}
+use Rattle.run_frames.specs.declared.frame.Frame.{Frame}
+use Rattle.run_frames.specs.Entered.{AreUnpickedIn, IsEntered}
+use Rattle.run_frames.proofs.WriteLemmas.{refilled}
+use Rattle.run_frames.proofs.StandLemmas.{placed_once, at_first}
+use Rattle.place_classes.specs.declared.class.Class.{Class}
+use Rattle.run_frames.specs.Ready.{AreClasses}
 use Rattle.run_frames.proofs.frames.Frames.open.Goals as goal
 
-pub open_down-requires-clause-distinct : goal.open_down-requires-clause-distinct
-open_down-requires-clause-distinct c =
+pub enter_tree-requires-clause-distinct : goal.enter_tree-requires-clause-distinct
+enter_tree-requires-clause-distinct c =
     subst (λ (arena : List BareNode). AreDistinct (nodes (placed arena))) (sym c.nodes-arena.ensures.nodes) (placed_once c.args.tree.now.nodes c.nodes-arena.ensures.distinct)
 
-pub returns : goal.returns
-returns c =
-    let long = ap (λ (l : List Frame). length l) c.as_mut_slice.ensures.value ∙ (c.in_ok-frames.ensures ∙ (sym (length_map bare_of c.nodes-arena.result.now) ∙ ap (λ (arena : List BareNode). length arena) c.nodes-arena.ensures.nodes)) in
-    let same = refilled c.in_ok-frames.frames c.open_down.new.frames (c.open_down.ensures.long ∙ ap (λ (l : List Frame). length l) c.as_mut_slice.ensures.value) in
-    stands_first c.args.tree.now.nodes c.as_mut_slice.result.now (record { frames = with_items c.in_ok-frames.frames c.open_down.new.frames }) c.open_down.result c.part_by_steps.ensures.none long
-    (subst (λ (l : List Frame). IsOpened c.as_mut_slice.result.now l (placed c.args.tree.now.nodes) c.open_down.result) (sym same)
-    (subst (λ (arena : List BareNode). IsOpened c.as_mut_slice.result.now c.open_down.new.frames (placed arena) c.open_down.result) c.nodes-arena.ensures.nodes c.open_down.ensures))
+pub enter_tree-requires-clause-table : goal.enter_tree-requires-clause-table
+enter_tree-requires-clause-table c =
+    subst (λ (arena : List BareNode). IsTable arena c.in_ok-table.table.rows.items) (sym c.nodes-arena.ensures.nodes) c.in_ok-table.ensures
+
+pub enter_tree-requires-clause-unpicked : goal.enter_tree-requires-clause-unpicked
+enter_tree-requires-clause-unpicked c =
+    subst (λ (l : List Frame). AreUnpickedIn (map bare_of c.nodes-arena.result.now) l) (sym c.as_mut_slice.ensures.value) (c.in_ok-frames.ensures.unpicked (map bare_of c.nodes-arena.result.now) (length_map bare_of c.nodes-arena.result.now))
+
+pub returns-clause-at : goal.returns-clause-at
+returns-clause-at c =
+    let arena = c.args.tree.now.nodes in
+    let long = ap (λ (l : List Frame). length l) c.as_mut_slice.ensures.value ∙ (c.in_ok-frames.ensures.long ∙ (sym (length_map bare_of c.nodes-arena.result.now) ∙ ap (λ (l : List BareNode). length l) c.nodes-arena.ensures.nodes)) in
+    let same = refilled c.in_ok-frames.frames c.enter_tree.new.frames (c.enter_tree.ensures.moved.long ∙ ap (λ (l : List Frame). length l) c.as_mut_slice.ensures.value) in
+    at_first arena c.as_mut_slice.result.now c.in_ok-set.set.all (record { frames = with_items c.in_ok-frames.frames c.enter_tree.new.frames; table = c.in_ok-table.table; set = c.enter_tree.new.set; waits = c.in_ok-waits.waits }) long c.in_ok-set.ensures.none
+    (subst (λ (l : List Frame). IsEntered arena c.as_mut_slice.result.now l c.in_ok-set.set.all c.enter_tree.new.set.all (placed arena)) (sym same)
+    (subst (λ (w : List BareNode). IsEntered w c.as_mut_slice.result.now c.enter_tree.new.frames c.in_ok-set.set.all c.enter_tree.new.set.all (placed w)) c.nodes-arena.ensures.nodes c.enter_tree.ensures.moved)) c.in_ok-table.ensures
+    (ap (λ (l : List Class). length l) (c.enter_tree.ensures.kept ∙ c.in_ok-set.ensures.kept) ∙ c.in_ok-first_classes.ensures.long)
+
+pub returns-clause-sorted : goal.returns-clause-sorted
+returns-clause-sorted c = record {
+  classes = subst (AreClasses c.args.tree.now [] []) (sym (c.enter_tree.ensures.kept ∙ c.in_ok-set.ensures.kept)) c.in_ok-first_classes.ensures.each;
+  linked = c.in_ok-waits.ensures;
+}
