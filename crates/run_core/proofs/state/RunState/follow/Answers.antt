@@ -77,7 +77,7 @@ invariant_of-self c =
           (λ m f. c.project_rules_move.ensures.kept p s t x m f) (λ m v. c.project_rules_move.ensures.dispatched p s t m v) defined;
     } in
     let held : Part (tree_in c.self.inside.tree) (u ++ x ∷ []) = subst (λ (y : Exec). Part y (u ++ x ∷ [])) (sym k.tree_is.held) part in
-    let now_at : IsAt c.self.inside.tree.nodes c.advance.new.self (u ++ x ∷ []) = c.advance.ensures u k.at held in
+    let now_at : IsAt c.self.inside.tree.nodes c.advance.new.self (u ++ x ∷ []) = c.advance.ensures.at u k.at held in
     let kept = state_follows p s c.self.inside.tree c.self.inside.frames c.advance.new.self t c.self.inside.marks c.follow-3.new.marks c.self.inside.vars c.follow-4.new.vars c.self.inside.steps c.follow.new.self
     x n c.args.def c.channel_of-channel.result k entered now_at c.follow-3.ensures.count c.follow-3.ensures.flags c.follow-4.ensures
     (c.channel_of-channel.ensures ∙ (ap (λ (o : Option ℕ). option_map_or (λ m. channel_in c.self.inside.tree.nodes m) o 0) of_node.number
