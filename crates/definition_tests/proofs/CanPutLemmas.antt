@@ -1,6 +1,6 @@
 -- Constants that refer to nothing may be put.
-use Rattle.std.proofs.Common.{◌≡◌, ℕ, zero, suc, ◌+◌, ◌<◌, ◌==◌, Bool, true, false, cond, List, [], ◌∷◌, ◌++◌, length, get_or, Option, Some, None, refl, sym, ap, subst, ◌∙◌, arith}
-use Rattle.std.specs.Prelude.{Contains, slice_get, flat_map, IsTrue}
+use Rattle.std.proofs.Common.{◌≡◌, ℕ, zero, suc, ◌+◌, ◌<◌, ◌==◌, Bool, true, false, List, [], ◌∷◌, length, get_or, Some, refl, sym, ap, subst, ◌∙◌, arith}
+use Rattle.std.specs.Prelude.{Contains, slice_get, flat_map}
 use Rattle.std.proofs.lemmas.List.Elements.{Contains-append_left, Contains-append_right}
 use Rattle.std.proofs.lemmas.Bool.Decides.{nat_tests}
 use Rattle.entity_types.specs.declared.class.Class.{Class}
@@ -12,7 +12,6 @@ use Rattle.entity_types.specs.Class.{code_of}
 use Rattle.entity_types.specs.Table.{used_of}
 use Rattle.entity_types.specs.Entity.{field_at, references_of, uses_of}
 use Rattle.project_store.specs.Entities.{entity_at}
-use Rattle.project_store.specs.Build.{is_project}
 use Rattle.project_store.specs.Putting.{CanPut}
 
 -- a constant that refers to nothing, and is new or takes the place of a constant

@@ -1,13 +1,12 @@
 -- Edges that count no more, taken out of their lists.
-use Rattle.std.specs.Prelude.{◌≡◌, ◌⊎◌, ◌<◌, ◌≤◌, ◌+◌, ℕ, zero, suc, Bool, true, false, List, [], ◌∷◌, ◌++◌, length, slice_get, Option, Some, None, Contains}
+use Rattle.std.specs.Prelude.{◌≡◌, ◌⊎◌, ◌<◌, ◌≤◌, ℕ, zero, suc, List, [], ◌∷◌, length, slice_get, Some, Contains}
 use Rattle.std.proofs.Common.{refl, sym, ap, subst, ◌∙◌, inl, inr, arith, get_or, set}
-use Rattle.std.proofs.lemmas.Bool.Decides.{nat_tests}
 use Rattle.std.proofs.lemmas.List.{length-set, get_or-set_same, get_or-set_other}
 use Rattle.std.proofs.lemmas.List.Elements.{Contains-append_left, Contains-push_cases}
 use Rattle.std.proofs.lemmas.Option.{slice_get_within}
 use Rattle.entity_types.specs.declared.entity.Entity.{Entity}
 use Rattle.project_versions.specs.declared.users.Edge.{Edge}
-use Rattle.project_versions.specs.Users.{Rows, Linked, here, further, IsEdge, RowIsRight, AreLinked, IsGone, Links, Spares, SetsRow}
+use Rattle.project_versions.specs.Users.{Rows, Linked, here, further, IsEdge, AreLinked, IsGone, Links, Spares, SetsRow}
 use Rattle.project_versions.proofs.UserLemmas.{same_or_not, link_cases}
 
 -- ---- what a list has once one of its elements is set

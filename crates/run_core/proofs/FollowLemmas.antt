@@ -15,7 +15,7 @@ use Rattle.trace_law.specs.State.{dispatched, marked, marks, stage, stage_step, 
 use Rattle.run_log.specs.declared.entry.Entry.{Entry}
 use Rattle.run_log.specs.declared.entry.Entry.TheVariants.{Dispatch, Block, End, Pick, Test, Assign, Set, Pass, Note, Edit}
 use Rattle.run_law.specs.Rules.{Rules}
-use Rattle.run_law.specs.Fits.{Fits, FitsNode, plain, is_plain, is_busy, is_due}
+use Rattle.run_law.specs.Fits.{Fits, FitsNode, plain, is_plain, is_busy}
 use Rattle.run_core.specs.declared.open_steps.OpenStep.{OpenStep}
 use Rattle.run_core.specs.State.{flag_at, mark_in, slot_at, slot_after, is_step_of, is_place_of, flag_after}
 use Rattle.run_core.specs.Kept.{IsOpenStep, AreOpen}

@@ -1,5 +1,5 @@
 -- What is made of a node by what is kept is what the rules make of it.
-use Rattle.std.specs.Prelude.{◌≡◌, ◌==◌, ◌⊎◌, ℕ, ℤ, true, false, List, [], map, slice_get, Option, Some, None, IfSome, IsSomeAnd, Result, Ok, Err, is_ok}
+use Rattle.std.specs.Prelude.{◌≡◌, ◌==◌, ◌⊎◌, ℕ, ℤ, true, false, List, map, slice_get, Option, Some, None, IfSome, IsSomeAnd, Result, Ok, Err, is_ok}
 use Rattle.std.specs.Result.{result_ok}
 use Rattle.std.proofs.Common.{refl, sym, ap, subst, ◌∙◌, inl, inr, arith}
 use Rattle.std.proofs.lemmas.Bool.Decides.{nat_tests}

@@ -1,5 +1,5 @@
 -- What a core keeps, in terms of the entries so far.
-use Rattle.std.specs.Prelude.{◌≡◌, ℕ, ℤ, Bool, true, List, [], length, Option, Some, IsSome, IsSomeAnd, IfSome, Ok}
+use Rattle.std.specs.Prelude.{◌≡◌, ℕ, ℤ, Bool, true, List, length, Option, Some, IsSome, IsSomeAnd, IfSome, Ok}
 use Rattle.entity_types.specs.declared.entity.Entity.{Entity}
 use Rattle.entity_types.specs.declared.edit.Edit.{Edit}
 use Rattle.project_store.specs.Entities.{entity_at}
@@ -10,9 +10,8 @@ use Rattle.nc_expr.specs.Vars.{value_at, value_of_variable}
 use Rattle.exec_tree.specs.Exec.{has, works}
 use Rattle.exec_tree.specs.Built.{TreeValue, IsTreeOf, main_of}
 use Rattle.trace_law.specs.State.{is_open, marks}
-use Rattle.trace_law.specs.Offer.{offer, Picks}
 use Rattle.run_log.specs.declared.entry.Entry.{Entry}
-use Rattle.run_log.specs.declared.entry.Entry.TheVariants.{Dispatch, Pick}
+use Rattle.run_log.specs.declared.entry.Entry.TheVariants.{Dispatch}
 use Rattle.run_law.specs.Rules.{Rules}
 use Rattle.run_law.specs.Fits.{plain}
 use Rattle.run_frames.specs.declared.frames.Frames.{Frames}

@@ -9,7 +9,7 @@ use Rattle.exec_tree.specs.declared.kind.Kind.TheVariants as kind
 use Rattle.exec_tree.specs.declared.node.BareNode.{BareNode}
 use Rattle.place_set.specs.Words.{holds}
 use Rattle.trace_law.specs.Next.{next, next_each}
-use Rattle.trace_law.specs.Cells.{Cell, WhereTrue}
+use Rattle.trace_law.specs.Cells.{WhereTrue}
 use Rattle.trace_law.specs.Cells as cells
 use Rattle.trace_law.specs.Frames.{one_where, is_shared, Stands}
 use Rattle.trace_law.specs.Leading.{leads}

@@ -6,7 +6,7 @@ use Rattle.exec_tree.specs.Arena.{AreShaped, AreNamed, numbers_in, tree_down}
 use Rattle.exec_tree.specs.Walked.{place_from}
 use Rattle.exec_tree.specs.declared.limits.TheConstants.{MAX_TREE_NESTING}
 use Rattle.exec_tree.specs.declared.node.BareNode.{BareNode}
-use Rattle.trace_law.specs.Of.{number_of, is_of, only}
+use Rattle.trace_law.specs.Of.{number_of, is_of}
 use Rattle.trace_law.specs.Of as of
 use Rattle.trace_law.specs.Part.{Part}
 use Rattle.trace_law.specs.Next.{next}

@@ -1,9 +1,9 @@
-use Rattle.std.proofs.Common.{◌≡◌, ◌++◌, nat_eq, ℕ, List, length, reverse, Ok, sym, ap, ◌∙◌, subst}
+use Rattle.std.proofs.Common.{◌≡◌, ◌++◌, nat_eq, List, length, reverse, Ok, sym, ap, ◌∙◌, subst}
 use Rattle.std.specs.List.{IsDistinct}
 use Rattle.std.proofs.lemmas.List.{reverse-reverse}
 use Rattle.entity_types.specs.declared.entity.Entity.{Entity}
 use Rattle.project_store.specs.Entities.{numbers_of}
-use Rattle.project_store.specs.Places.{IsIndex, AreKept, AreNoted}
+use Rattle.project_store.specs.Places.{AreKept, AreNoted}
 use Rattle.project_store.specs.Put.{put_items}
 use Rattle.project_store.proofs.PuttingLemmas.{distinct_put, new_distinct, index_noted, index_put}
 use Rattle.project_store.proofs.index.Index.put.Goals as goal

@@ -1,4 +1,4 @@
-use Rattle.std.proofs.Common.{◌≡◌, ◌∙◌, sym, ap}
+use Rattle.std.proofs.Common.{◌∙◌, sym, ap}
 use Rattle.std.specs.Prelude.{Some}
 use Rattle.run_core.proofs.EditLemmas.{room_there, version_fits}
 use Rattle.run_core.proofs.edits.Edits.accept.Goals as goal

@@ -1,7 +1,7 @@
-use Rattle.std.proofs.Common.{◌≡◌, ◌∙◌, subst, sym, ap, refl, ℕ, List}
-use Rattle.std.specs.Prelude.{Option, Some, None}
+use Rattle.std.proofs.Common.{◌∙◌, subst, sym, refl}
+use Rattle.std.specs.Prelude.{Some}
 use Rattle.run_log.specs.declared.entry.Entry.{Entry}
-use Rattle.run_core.proofs.EditLemmas.{followed, moves, Moves, none_go_on, not_dispatched, adds_go_on, SentMore, go_on_some, go_on_none, none_there, sent_step}
+use Rattle.run_core.proofs.EditLemmas.{followed, moves, none_go_on, not_dispatched, adds_go_on, SentMore, go_on_some, go_on_none, none_there, sent_step}
 use Rattle.run_core.proofs.edits.Edits.follow.Goals as goal
 
 pub returns-in_default : goal.returns-in_default

@@ -1,17 +1,14 @@
-use Rattle.std.proofs.Common.{◌≡◌, ◌∙◌, ◌≤◌, ◌+◌, subst, sym, ap, ℕ, List, length, true}
-use Rattle.std.specs.Prelude.{Option, Some}
+use Rattle.std.proofs.Common.{◌≡◌, ◌∙◌, subst, sym, ap, ℕ, List, true}
+use Rattle.std.specs.Prelude.{Some}
 use Rattle.std.specs.List.{list_all}
-use Rattle.std.specs.Option.{option_map_or}
-use Rattle.nc_base.specs.declared.verdict.Verdict.{Verdict}
 use Rattle.entity_types.specs.declared.entity.Entity.{Entity}
 use Rattle.entity_types.specs.declared.edit.Edit.{Edit as ScriptEdit}
 use Rattle.project_store.specs.Entities.{entity_at}
 use Rattle.step_def.specs.Condition.{is_workingstep}
 use Rattle.exec_tree.specs.Built.{steps_in}
-use Rattle.edit_rules.specs.Judge.{judge, reached}
+use Rattle.edit_rules.specs.Judge.{judge}
 use Rattle.project_law.specs.Script.{store_after}
 use Rattle.project_law.specs.ProjectRules.{store_steps, verdict_after}
-use Rattle.run_core.specs.Edits.{reached_by}
 use Rattle.run_core.proofs.EditLemmas.{all_pass, if_ok, kept_of, store_of, verdict_is}
 use Rattle.run_core.proofs.edits.Edits.judge.Goals as goal
 

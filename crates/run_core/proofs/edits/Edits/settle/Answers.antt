@@ -1,4 +1,4 @@
-use Rattle.std.proofs.Common.{◌≡◌, ◌∙◌, subst, sym, ap, ◌+◌, ◌∷◌, ◌++◌, []}
+use Rattle.std.proofs.Common.{◌≡◌, ◌∙◌, subst, sym, ◌+◌, ◌∷◌, ◌++◌, []}
 use Rattle.std.specs.Prelude.{slice_get}
 use Rattle.nc_base.specs.declared.verdict.Verdict.{Verdict}
 use Rattle.run_log.specs.declared.entry.Entry.TheVariants as entries

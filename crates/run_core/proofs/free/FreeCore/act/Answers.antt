@@ -1,4 +1,4 @@
-use Rattle.std.proofs.Common.{◌≡◌, ◌∙◌, subst, sym, ap, []}
+use Rattle.std.proofs.Common.{◌≡◌, ◌∙◌, subst, sym, ap}
 use Rattle.std.specs.Prelude.{Some, option_map}
 use Rattle.run_law.specs.Fits.{Fits}
 use Rattle.run_law.specs.Replay.{ready}

@@ -1,4 +1,4 @@
-use Rattle.std.proofs.Common.{◌≡◌, ◌∙◌, ◌<◌, ◌≤◌, subst, sym, ap, ℕ, List, length, arith}
+use Rattle.std.proofs.Common.{◌∙◌, ◌<◌, ◌≤◌, subst, sym, ap, ℕ, List, length, arith}
 use Rattle.std.specs.List.{All}
 use Rattle.run_log.specs.declared.entry.Entry.{Entry}
 use Rattle.run_core.proofs.free.FreeCore.open.Goals as goal

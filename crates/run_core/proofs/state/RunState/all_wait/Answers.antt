@@ -1,4 +1,4 @@
-use Rattle.std.proofs.Common.{◌≡◌, ◌∙◌, subst, ap, ℕ, [], is_none}
+use Rattle.std.proofs.Common.{◌≡◌, ◌∙◌, subst, ap, ℕ, is_none}
 use Rattle.std.specs.Prelude.{Option}
 use Rattle.std.specs.List.{list_all}
 use Rattle.project_store.specs.Entities.{entity_at}

@@ -1,5 +1,5 @@
 use Rattle.std.proofs.Common.{◌≡◌, ◌∙◌, subst, sym, ap, ℕ}
-use Rattle.std.specs.Prelude.{Bool, slice_get, length}
+use Rattle.std.specs.Prelude.{slice_get, length}
 use Rattle.std.specs.List.{list_all}
 use Rattle.run_law.specs.Fits.{is_due, is_stuck, next_of}
 use Rattle.run_law.specs.Endings.{waits}

@@ -1,4 +1,4 @@
-use Rattle.std.proofs.Common.{◌≡◌, ◌∙◌, subst, ap, ℕ, []}
+use Rattle.std.proofs.Common.{◌≡◌, ◌∙◌, subst, ap, ℕ}
 use Rattle.std.specs.Prelude.{Option, is_none}
 use Rattle.trace_law.specs.Below.{tree_in}
 use Rattle.run_law.specs.Fits.{next_of, plain}

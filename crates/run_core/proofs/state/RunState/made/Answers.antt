@@ -1,9 +1,7 @@
-use Rattle.std.proofs.Common.{◌≡◌, ◌∙◌, subst, sym, ap, ℕ, [], List, true}
+use Rattle.std.proofs.Common.{◌≡◌, ◌∙◌, subst, sym, ap, ℕ, List, true}
 use Rattle.std.specs.Prelude.{Option, Some, None, Ok, IsSomeAnd, Bool, if◌then◌else◌}
-use Rattle.run_log.specs.declared.entry.Entry.{Entry}
 use Rattle.trace_law.specs.Part.{Part}
 use Rattle.run_frames.specs.declared.deed.Deed.TheVariants as deeds
-use Rattle.run_core.specs.Kinds.{IsDoneBy}
 use Rattle.path_blocks.specs.declared.def.Def.{Def}
 use Rattle.project_store.specs.Entities.{entity_at}
 use Rattle.step_def.specs.DefOf.{def_of}
@@ -15,7 +13,7 @@ use Rattle.exec_tree.specs.Said.{said_for}
 use Rattle.exec_tree.specs.TreeFault.{nothing_seen}
 use Rattle.exec_tree.specs.TreeOf.{tree_of}
 use Rattle.exec_tree.specs.Built.{main_of}
-use Rattle.trace_law.specs.Offer.{Offer, IsOpen, offer}
+use Rattle.trace_law.specs.Offer.{IsOpen, offer}
 use Rattle.trace_law.specs.Next.{next}
 use Rattle.run_law.specs.Fits.{next_of}
 use Rattle.run_law.specs.Replay.{made}
@@ -25,7 +23,7 @@ use Rattle.run_core.specs.Kept.{State, IsDefined}
 use Rattle.run_frames.specs.Standing.{IsNextOf}
 use Rattle.trace_law.specs.Below.{tree_in}
 use Rattle.run_core.proofs.QuestionLemmas.{told, filter_has}
-use Rattle.run_core.proofs.KindLemmas.{store_done_by, works_has}
+use Rattle.run_core.proofs.KindLemmas.{store_done_by}
 use Rattle.run_core.specs.State.{def_by}
 use Rattle.project_law.specs.Script.{store_after}
 use Rattle.edit_rules.specs.Faults.{has_def}

@@ -1,14 +1,10 @@
-use Rattle.std.proofs.Common.{◌≡◌, ◌∙◌, subst, sym, ap, refl, ℕ, [], List, true}
-use Rattle.std.specs.Prelude.{Option, Ok, IsSomeAnd}
-use Rattle.path_blocks.specs.declared.def.Def.{Def}
+use Rattle.std.proofs.Common.{◌≡◌, ◌∙◌, subst, sym, ap, ℕ, [], List, true}
 use Rattle.entity_types.specs.declared.entity.Entity.{Entity}
 use Rattle.project_store.specs.Entities.{entity_at}
-use Rattle.step_def.specs.DefOf.{def_of}
 use Rattle.std.specs.List.{list_all}
 use Rattle.step_def.specs.Condition.{is_workingstep}
 use Rattle.edit_rules.specs.Faults.{has_def}
 use Rattle.exec_tree.specs.TreeFault.{nothing_seen}
-use Rattle.exec_tree.specs.Exec.{has}
 use Rattle.exec_tree.specs.Built.{main_of}
 use Rattle.run_log.specs.declared.entry.Entry.{Entry}
 use Rattle.project_law.specs.ProjectRules.{rules_of, store_steps}

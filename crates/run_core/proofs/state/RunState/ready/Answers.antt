@@ -1,4 +1,4 @@
-use Rattle.std.proofs.Common.{◌≡◌, ◌∙◌, subst, []}
+use Rattle.std.proofs.Common.{◌≡◌, ◌∙◌, subst}
 use Rattle.project_store.specs.Entities.{entity_at}
 use Rattle.exec_tree.specs.TreeFault.{nothing_seen}
 use Rattle.exec_tree.specs.TreeOf.{tree_of}

@@ -1,9 +1,8 @@
-use Rattle.std.proofs.Common.{◌≡◌, ◌∙◌, subst, sym, ap, refl, ℕ, [], ◌∷◌, ◌++◌, List, true}
-use Rattle.nc_base.specs.declared.verdict.Verdict.{Verdict}
+use Rattle.std.proofs.Common.{◌≡◌, ◌∙◌, subst, sym, ap, refl, [], ◌∷◌, ◌++◌, List, true}
 use Rattle.entity_types.specs.declared.edit.Edit.{Edit as ScriptEdit}
 use Rattle.run_log.specs.declared.entry.Entry.{Entry}
 use Rattle.run_log.specs.declared.entry.Entry.TheVariants.{Edit}
-use Rattle.run_law.specs.Fits.{Fits, FitsEdit, is_due, judged}
+use Rattle.run_law.specs.Fits.{FitsEdit, is_due, judged}
 use Rattle.project_law.specs.ProjectRules.{rules_of, verdict_after}
 use Rattle.run_core.specs.Kept.{State, IsState}
 use Rattle.run_core.specs.Edits.{AreKept}

@@ -1,4 +1,4 @@
-use Rattle.std.proofs.Common.{◌≡◌, ◌∙◌, subst, sym, ap, ℕ, [], List, true}
+use Rattle.std.proofs.Common.{◌≡◌, ◌∙◌, subst, sym, ap, true}
 use Rattle.project_store.specs.Entities.{entity_at}
 use Rattle.exec_tree.specs.Exec.{Exec, has}
 use Rattle.exec_tree.specs.TreeOf.{tree_of}
@@ -6,7 +6,6 @@ use Rattle.exec_tree.specs.Built.{main_of}
 use Rattle.trace_law.specs.Below.{tree_in}
 use Rattle.trace_law.specs.Next.{next}
 use Rattle.trace_law.specs.Offer.{offer}
-use Rattle.run_log.specs.declared.entry.Entry.{Entry}
 use Rattle.run_law.specs.Fits.{next_of, plain}
 use Rattle.project_law.specs.ProjectRules.{rules_of}
 use Rattle.run_core.specs.Core.{does_start, starts_next}
