@@ -68,7 +68,7 @@ marks_more (y ∷ t) x = go (marked y) (marks_more t x)
     go None e = e
     go (Some n) e = ap (λ (ns : List ℕ). n ∷ ns) e
 
-has_put : (ns : List ℕ) (n m : ℕ) → has (ns ++ n ∷ []) m ≡ ((n == m) || has ns m)
+pub has_put : (ns : List ℕ) (n m : ℕ) → has (ns ++ n ∷ []) m ≡ ((n == m) || has ns m)
 has_put [] n m = refl
 has_put (k ∷ ns) n m = ap (λ (b : Bool). (k == m) || b) (has_put ns n m) ∙ go (k == m) (n == m)
   where

@@ -6,5 +6,6 @@ pub mod PickLemmas
 pub mod EditLemmas
 pub mod MadeLemmas
 pub mod FollowLemmas
+pub mod ReadyLemmas
 pub mod StateLemmas
 pub mod CoreLemmas

@@ -7,22 +7,19 @@ use Rattle.entity_types.specs.declared.entity.Entity.{Entity}
 use Rattle.entity_types.specs.declared.edit.Edit.{Edit as ScriptEdit}
 use Rattle.project_store.specs.Entities.{entity_at}
 use Rattle.exec_tree.specs.Exec.{Exec, nodes, has, works}
-use Rattle.exec_tree.specs.declared.role.Role.{Role}
-use Rattle.exec_tree.specs.declared.role.Role.TheVariants.{Cutting, Waiting, Free}
+use Rattle.exec_tree.specs.declared.role.Role.TheVariants.{Free}
 use Rattle.exec_tree.specs.Role.{role_of}
 use Rattle.exec_tree.specs.TreeOf.{tree_of}
 use Rattle.exec_tree.specs.Built.{TreeValue, IsTreeOf, main_of, channel_in, channel_of, role_in}
 use Rattle.trace_law.specs.Below.{tree_in}
 use Rattle.trace_law.specs.Next.{next}
-use Rattle.trace_law.specs.State.{is_open, marks}
+use Rattle.trace_law.specs.State.{is_open}
 use Rattle.run_log.specs.declared.entry.Entry.{Entry}
 use Rattle.run_law.specs.Rules.{Rules}
-use Rattle.run_law.specs.Fits.{plain, next_of, is_busy, is_enabled, may_go_on}
-use Rattle.run_law.specs.Endings.{waits, waits_by}
-use Rattle.run_law.specs.Replay.{ready}
+use Rattle.run_law.specs.Fits.{plain, next_of, is_busy}
 use Rattle.project_law.specs.ProjectRules.{rules_of}
 use Rattle.run_core.specs.declared.open_steps.OpenStep.{OpenStep}
-use Rattle.run_core.specs.State.{mark_in, slot_at, is_step_of, may_by, may_in, waits_said, waits_in}
+use Rattle.run_core.specs.State.{slot_at, is_step_of}
 use Rattle.run_core.specs.Standings.{is_empty}
 use Rattle.run_core.specs.Kept.{IsOpenStep, AreOpen}
 
@@ -44,13 +41,9 @@ find_same p q (n ∷ ns) h =
     ap (λ (b : Bool). cond b (Some n) (find p ns)) (h n (first_has n ns))
     ∙ ap (λ (o : Option ℕ). cond (q n) (Some n) o) (find_same p q ns (λ m e. h m (later_has n ns m e)))
 
-none_all : (p : ℕ → Bool) (ns : List ℕ) → is_none (find (λ n. not (p n)) ns) ≡ list_all p ns
-none_all p [] = refl
-none_all p (n ∷ ns) = go (p n) (none_all p ns)
-  where
-    go : (b : Bool) → is_none (find (λ m. not (p m)) ns) ≡ list_all p ns → is_none (cond (not b) (Some n) (find (λ m. not (p m)) ns)) ≡ (b && list_all p ns)
-    go true e = e
-    go false e = refl
+pub all_same : (p q : ℕ → Bool) (ns : List ℕ) → ((n : ℕ) → has ns n ≡ true → p n ≡ q n) → list_all p ns ≡ list_all q ns
+all_same p q [] h = refl
+all_same p q (n ∷ ns) h = ap (λ (b : Bool). b && list_all p ns) (h n (first_has n ns)) ∙ ap (λ (b : Bool). q n && b) (all_same p q ns (λ m e. h m (later_has n ns m e)))
 
 any_has : (p : ℕ → Bool) (ns : List ℕ) (n : ℕ) → has ns n ≡ true → p n ≡ true → list_any p ns ≡ true
 any_has p [] n h e = h
@@ -151,49 +144,7 @@ none_told None false e = e
 none_told (Some a) true e = e
 none_told (Some a) false e = refl
 
--- ---- nodes that may go on, and nodes that wait
-
-pub may_is : (r : Rules) (t : List Entry) (tree : TreeValue) (flags : List Bool) (slots : List (Option OpenStep)) → Told r t tree → AreOpen r t slots
-    → ((m : ℕ) → mark_in tree.nodes flags m ≡ has (marks t) m) → (n : ℕ) → has (nodes (r.tree t)) n ≡ true → may_in tree flags slots n ≡ is_enabled r t n
-may_is r t tree flags slots told kept set n h =
-    ap (λ (c : ℕ). may_by (slot_at slots c) tree.nodes flags n (role_in tree n)) (told.channels n)
-    ∙ (ap (may_by (slot_at slots (r.channel t n)) tree.nodes flags n) (told.roles n h) ∙ go (r.role t n))
-  where
-    go : (role : Role) → may_by (slot_at slots (r.channel t n)) tree.nodes flags n role ≡ may_go_on r t n role
-    go Cutting =
-        ap (λ (b : Bool). b || is_none (slot_at slots (r.channel t n))) (sym (kept.opens n))
-        ∙ ap (λ (b : Bool). is_open n t || b) (not_some (slot_at slots (r.channel t n)) ∙ ap not (sym (busy_is r t slots kept (r.channel t n))))
-    go (Waiting m) = set m
-    go Free = refl
-
-pub waits_is : (r : Rules) (t : List Entry) (tree : TreeValue) (flags : List Bool) → Told r t tree
-    → ((m : ℕ) → mark_in tree.nodes flags m ≡ has (marks t) m) → (n : ℕ) → has (nodes (r.tree t)) n ≡ true → waits_in tree flags n ≡ waits r t n
-waits_is r t tree flags told set n h = ap (waits_said tree.nodes flags) (told.roles n h) ∙ go (r.role t n)
-  where
-    go : (role : Role) → waits_said tree.nodes flags role ≡ waits_by t role
-    go Cutting = refl
-    go (Waiting m) = ap not (set m)
-    go Free = refl
-
--- ---- what the questions find
-
-pub ready_is : (r : Rules) (t : List Entry) (tree : TreeValue) (flags : List Bool) (slots : List (Option OpenStep)) (c : ℕ) → Told r t tree → AreOpen r t slots
-    → ((m : ℕ) → mark_in tree.nodes flags m ≡ has (marks t) m)
-    → find (λ n. (channel_in tree.nodes n == c) && may_in tree flags slots n) (next (tree_in tree) (plain t)) ≡ ready r t c
-ready_is r t tree flags slots c told kept set =
-    ap (λ (e : Exec). find (λ n. (channel_in tree.nodes n == c) && may_in tree flags slots n) (next e (plain t))) told.held
-    ∙ (find_same (λ n. (channel_in tree.nodes n == c) && may_in tree flags slots n) (λ n. (r.channel t n == c) && is_enabled r t n) (next_of r t)
-    (λ n h. ap (λ (k : ℕ). (k == c) && may_in tree flags slots n) (told.channels n)
-    ∙ ap (λ (b : Bool). (r.channel t n == c) && b) (may_is r t tree flags slots told kept set n (told.within n h))))
-
-pub all_wait_is : (r : Rules) (t : List Entry) (tree : TreeValue) (flags : List Bool) → Told r t tree
-    → ((m : ℕ) → mark_in tree.nodes flags m ≡ has (marks t) m)
-    → is_none (find (λ n. not (waits_in tree flags n)) (next (tree_in tree) (plain t))) ≡ list_all (waits r t) (next_of r t)
-all_wait_is r t tree flags told set =
-    ap (λ (e : Exec). is_none (find (λ n. not (waits_in tree flags n)) (next e (plain t)))) told.held
-    ∙ (ap is_none (find_same (λ n. not (waits_in tree flags n)) (λ n. not (waits r t n)) (next_of r t)
-    (λ n h. ap not (waits_is r t tree flags told set n (told.within n h))))
-    ∙ none_all (waits r t) (next_of r t))
+-- ---- whether a run can go on
 
 pub over_is : (r : Rules) (t : List Entry) (e : Exec) → e ≡ r.tree t → is_none (find (λ (n : ℕ). true) (next e (plain t))) ≡ is_empty (next_of r t)
 over_is r t e h = go (next e (plain t)) ∙ ap (λ (x : Exec). is_empty (next x (plain t))) h

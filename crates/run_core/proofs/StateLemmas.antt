@@ -1,6 +1,6 @@
 -- The state of a run after one more entry.
 use Rattle.std.specs.Prelude.{◌≡◌, ◌<◌, ◌≤◌, max, ◌==◌, ◌||◌, not, ℕ, ℤ, pos, Bool, true, false, if◌then◌else◌, unwrap_or, is_some, List, [], ◌∷◌, ◌++◌, length, slice_get, Option, Some, None, IfSome, IsSome, IsSomeAnd, Ok}
-use Rattle.std.specs.Option.{option_map_or}
+use Rattle.std.specs.Option.{option_map_or, option_to_list}
 use Rattle.std.proofs.Common.{refl, sym, ap, subst, ◌∙◌, arith}
 use Rattle.path_blocks.specs.declared.block.Block.{Block as PathBlock}
 use Rattle.path_blocks.specs.declared.def.Def.{Def}
@@ -31,6 +31,7 @@ use Rattle.exec_tree.specs.declared.role.Role.TheVariants.{Cutting}
 use Rattle.exec_tree.specs.declared.limits.TheConstants.{MAX_CHANNELS}
 use Rattle.run_frames.specs.declared.frames.Frames.{Frames}
 use Rattle.run_frames.specs.Standing.{IsAt}
+use Rattle.run_frames.specs.Ready.{IsSorted}
 use Rattle.project_law.specs.Variables.{vars_with, vars_after}
 use Rattle.project_law.specs.Script.{store_after}
 use Rattle.project_law.specs.Paths.{blocks_in}
@@ -170,13 +171,14 @@ pub record Entered (project : List Entity) (script : List ScriptEdit) (tree : Tr
 
 pub state_follows : (project : List Entity) (script : List ScriptEdit) (tree : TreeValue) (frames frames' : Frames) (t : List Entry) (flags flags' : List Bool) (vars vars' : List (ℕ × ℤ)) (slots slots' : List (Option OpenStep))
     (x : Entry) (n : ℕ) (def : Option Def) (channel : ℕ) → IsState project script tree frames t flags vars slots → Entered project script tree t x n def
-    → IsAt tree.nodes frames' (plain t ++ x ∷ []) → length flags' ≡ length flags → ((q : ℕ) → flag_at flags' q ≡ flag_after tree.nodes (marked x) (flag_at flags q) q)
+    → IsAt tree.nodes frames' (plain t ++ x ∷ []) → IsSorted tree frames' (plain t ++ x ∷ []) (marks t ++ option_to_list (marked x)) → marks (t ++ x ∷ []) ≡ marks t ++ option_to_list (marked x) → length flags' ≡ length flags → ((q : ℕ) → flag_at flags' q ≡ flag_after tree.nodes (marked x) (flag_at flags q) q)
     → ((m : ℕ) → value_of_variable vars' m ≡ var_after tree x (value_of_variable vars m) m)
     → channel ≡ (rules_of project script).channel t n → ((c : ℕ) → slot_at slots' c ≡ (if c == channel then slot_after def x (slot_at slots c) else slot_at slots c))
     → IsState project script tree frames' (t ++ x ∷ []) flags' vars' slots'
-state_follows project script tree frames frames' t flags flags' vars vars' slots slots' x n def channel k e at fit moved assigned is opened = record {
+state_follows project script tree frames frames' t flags flags' vars vars' slots slots' x n def channel k e at sorted marked_so fit moved assigned is opened = record {
   tree_is = k.tree_is;
   at = subst (IsAt tree.nodes frames') (sym (plain_more t x n e.number)) at;
+  sorted = subst (λ (u : List Entry). IsSorted tree frames' u (marks (t ++ x ∷ []))) (sym (plain_more t x n e.number)) (subst (IsSorted tree frames' (plain t ++ x ∷ [])) (sym marked_so) sorted);
   legal = e.legal;
   flags_fit = fit ∙ k.flags_fit;
   marks_are = marks_follow tree.nodes flags flags' t x e.numbered (mark_placed tree.nodes x n e.number (placed tree.nodes tree.said n _ e.said)) k.marks_are moved;
@@ -254,6 +256,7 @@ pub edit_follows : (project : List Entity) (script : List ScriptEdit) (tree : Tr
 edit_follows project script tree frames t flags vars slots i w k legal plains marked_so vars_so stages paths = record {
   tree_is = k.tree_is;
   at = subst (IsAt tree.nodes frames) (sym plains) k.at;
+  sorted = subst (λ (u : List Entry). IsSorted tree frames u (marks (t ++ Edit i w ∷ []))) (sym plains) (subst (IsSorted tree frames (plain t)) (sym (marked_so ∙ append_none (marks t))) k.sorted);
   legal = legal;
   flags_fit = k.flags_fit;
   marks_are = λ n. k.marks_are n ∙ ap (λ (ns : List ℕ). has ns n) (sym (marked_so ∙ append_none (marks t)));

@@ -16,6 +16,7 @@ use Rattle.run_law.specs.Rules.{Rules}
 use Rattle.run_law.specs.Fits.{plain}
 use Rattle.run_frames.specs.declared.frames.Frames.{Frames}
 use Rattle.run_frames.specs.Standing.{IsAt}
+use Rattle.run_frames.specs.Ready.{IsSorted}
 use Rattle.project_law.specs.Variables.{vars_after}
 use Rattle.project_law.specs.ProjectRules.{rules_of}
 use Rattle.project_law.specs.Legal.{Legal}
@@ -44,6 +45,7 @@ pub record AreOpen (r : Rules) (t : List Entry) (slots : List (Option OpenStep))
 pub record IsState (project : List Entity) (script : List Edit) (tree : TreeValue) (frames : Frames) (t : List Entry) (flags : List Bool) (vars : List (ℕ × ℤ)) (slots : List (Option OpenStep)) : Type 0 where
   pub tree_is : IsTreeOf (entity_at project) (main_of project) tree
   pub at : IsAt tree.nodes frames (plain t)
+  pub sorted : IsSorted tree frames (plain t) (marks t)
   pub legal : Legal project script t
   pub flags_fit : length flags ≡ length tree.nodes
   pub marks_are : (n : ℕ) → mark_in tree.nodes flags n ≡ has (marks t) n

@@ -1,5 +1,5 @@
 -- What a core keeps beside its log, and how each piece moves with one more entry.
-use Rattle.std.specs.Prelude.{◌==◌, ◌||◌, not, if◌then◌else◌, pos, ℕ, ℤ, Bool, true, false, List, [], unwrap_or, is_none, slice_get, Option, Some, None, option_map}
+use Rattle.std.specs.Prelude.{◌==◌, ◌||◌, if◌then◌else◌, pos, ℕ, ℤ, Bool, false, List, [], unwrap_or, slice_get, Option, Some, None, option_map}
 use Rattle.std.specs.Option.{option_map_or}
 use Rattle.std.specs.Result.{result_ok}
 use Rattle.entity_types.specs.declared.entity.Entity.{Entity}
@@ -7,11 +7,9 @@ use Rattle.project_store.specs.Entities.{entity_at}
 use Rattle.step_def.specs.DefOf.{def_of}
 use Rattle.path_blocks.specs.declared.def.Def.{Def}
 use Rattle.exec_tree.specs.declared.node.BareNode.{BareNode}
-use Rattle.exec_tree.specs.declared.role.Role.{Role}
-use Rattle.exec_tree.specs.declared.role.Role.TheVariants.{Cutting, Waiting, Free}
 use Rattle.exec_tree.specs.Said.{Said, Assigns, Branches, Repeats}
 use Rattle.nc_expr.specs.Value.{value_of, holds}
-use Rattle.exec_tree.specs.Built.{TreeValue, channel_in, role_in, said_in}
+use Rattle.exec_tree.specs.Built.{TreeValue, channel_in, said_in}
 use Rattle.exec_tree.specs.Walked.{place_from}
 use Rattle.run_log.specs.declared.entry.Entry.{Entry}
 use Rattle.run_log.specs.declared.entry.Entry.TheVariants.{Dispatch, End, Assign, Set, Pass, Note, Pick, Test}
@@ -39,24 +37,6 @@ slot_at slots channel = unwrap_or (slice_get slots channel) None
 -- step n is the open one
 abbrev pub is_step_of : Option OpenStep → ℕ → Bool
 is_step_of slot n = option_map_or (λ o. o.step == n) slot false
-
--- a node of this role may go on: a step that is open or whose channel has no open step, a wait whose mark is set, any other
-abbrev pub may_by : Option OpenStep → List BareNode → List Bool → ℕ → Role → Bool
-may_by slot nodes flags n Cutting = is_step_of slot n || is_none slot
-may_by slot nodes flags n (Waiting mark) = mark_in nodes flags mark
-may_by slot nodes flags n Free = true
-
-abbrev pub may_in : TreeValue → List Bool → List (Option OpenStep) → ℕ → Bool
-may_in tree flags slots n = may_by (slot_at slots (channel_in tree.nodes n)) tree.nodes flags n (role_in tree n)
-
--- a node of this role waits for a mark that isn't set
-abbrev pub waits_said : List BareNode → List Bool → Role → Bool
-waits_said nodes flags Cutting = false
-waits_said nodes flags (Waiting mark) = not (mark_in nodes flags mark)
-waits_said nodes flags Free = false
-
-abbrev pub waits_in : TreeValue → List Bool → ℕ → Bool
-waits_in tree flags n = waits_said tree.nodes flags (role_in tree n)
 
 -- the variable that a node assigns
 abbrev pub variable_by : Option Said → Option ℕ

@@ -2,7 +2,7 @@
 
 ghost use Rattle.std.specs.Prelude.{◌≡◌, ◌==◌, ◌<◌, ◌||◌, ℕ, false, length, IfOk};
 ghost use Rattle.trace_law.specs.State.{marked};
-ghost use Rattle.run_core.specs.State.{flag_at, flag_after};
+ghost use Rattle.run_core.specs.State.{flag_at, flag_after, mark_in};
 
 use exec_tree::Tree;
 use exec_tree::laws::places_are_found;
@@ -56,8 +56,18 @@ impl Marks {
     }
 }
 
+/// Whether the mark of a node is set.
+pub fn is_marked(tree: &Tree, marks: &Marks, n: Number) -> bool
+    ensures { result ≡ mark_in tree.now.nodes marks.now n }
+{
+    match tree.place_of(n) {
+        Some(place) => marks.is_set(place),
+        None => false,
+    }
+}
+
 /// The mark that an entry sets.
-fn mark_of(entry: &Entry) -> Option<Number>
+pub fn mark_of(entry: &Entry) -> Option<Number>
     ensures { result ≡ marked entry.now }
 {
     match *entry {

@@ -1,6 +1,6 @@
 //! The open step of each channel.
 
-ghost use Rattle.std.specs.Prelude.{◌≡◌, ◌==◌, ◌<◌, ℕ, None, if◌then◌else◌, option_copied, IfOk};
+ghost use Rattle.std.specs.Prelude.{◌≡◌, ◌==◌, ◌<◌, ℕ, None, if◌then◌else◌, is_none, option_copied, IfOk};
 ghost use Rattle.exec_tree.specs.declared.limits.TheConstants.{MAX_CHANNELS};
 ghost use Rattle.run_core.specs.State.{slot_at, slot_after};
 
@@ -74,6 +74,13 @@ impl OpenSteps {
             Some(slot) => slot.as_ref(),
             None => None,
         }
+    }
+
+    /// Whether a channel has no open step.
+    pub fn is_idle(&self, channel: u8) -> bool
+        ensures { result ≡ is_none (slot_at self.now channel) }
+    {
+        self.at(channel).is_none()
     }
 
     /// Goes on with an entry of a channel, in which a step is dispatched with this definition.

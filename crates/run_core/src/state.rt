@@ -1,9 +1,9 @@
 //! The state of a run: where it stands, what is set and open, and what the variables are.
 
-ghost use Rattle.std.specs.Prelude.{◌≡◌, ◌<◌, ◌≤◌, ◌^◌, ◌++◌, ◌∷◌, [], ℕ, true, max, ◌+◌, length, IfOk, OnOk, OnErr, slice_get, is_none};
+ghost use Rattle.std.specs.Prelude.{◌≡◌, ◌<◌, ◌≤◌, ◌^◌, ◌++◌, ◌∷◌, [], ℕ, List, IfSome, true, max, ◌+◌, length, IfOk, OnOk, OnErr, slice_get, is_none};
 ghost use Rattle.std.specs.List.{list_all};
 ghost use Rattle.nc_expr.specs.Vars.{value_at};
-ghost use Rattle.exec_tree.specs.Exec.{has};
+ghost use Rattle.exec_tree.specs.Exec.{has, nodes};
 ghost use Rattle.exec_tree.specs.declared.limits.TheConstants.{MAX_CHANNELS};
 ghost use Rattle.trace_law.specs.Of.{number_of};
 ghost use Rattle.run_law.specs.Fits.{Fits, is_plain, plain, next_of, judged, is_due};
@@ -17,25 +17,30 @@ ghost use Rattle.run_frames.specs.declared.deed.Deed.TheVariants.{Starts, Picks}
 ghost use Rattle.project_law.specs.Script.{store_after};
 ghost use Rattle.project_law.specs.ProjectRules.{rules_of, store_channels, store_steps, version_after};
 ghost use Rattle.project_law.specs.Legal.{Legal};
-ghost use Rattle.run_core.specs.State.{slot_at, path_in, entry_by, def_by, entry_channel};
+ghost use Rattle.run_core.specs.State.{mark_in, slot_at, path_in, entry_by, def_by, entry_channel};
 ghost use Rattle.run_core.specs.Kept.{IsDefined};
 ghost use Rattle.run_core.specs.Edits.{HasVersion, version_now, reached_by};
-ghost use Rattle.run_frames.specs.Standing.{IsNextOf};
+ghost use Rattle.run_frames.specs.Standing.{IsAt, IsNextOf};
+ghost use Rattle.run_frames.specs.Ready.{IsSorted};
+ghost use Rattle.trace_law.specs.Below.{tree_in};
+ghost use Rattle.trace_law.specs.State.{marked};
+ghost use Rattle.std.specs.Option.{option_to_list};
+ghost use Rattle.run_log.specs.declared.entry.Entry.{Entry};
 ghost use Rattle.run_log.specs.declared.entry.Entry.TheVariants.{Pick, Edit};
 ghost use Rattle.run_core.specs.Standings.{is_empty};
 ghost use Rattle.run_core.specs.Core.{does_start, starts_next};
 
 use crate::definition::definition_in;
 use crate::edits::Edits;
-use crate::marks::{self, Marks};
+use crate::marks::{self, Marks, is_marked, mark_of};
 use crate::open_steps::OpenSteps;
-use crate::questions::{Any, ReadyIn, Waitless};
+use crate::questions::Any;
 use crate::variables::{self, answer_of, opening_vars, value_of};
 use edit_rules::Project;
 use edit_rules::laws::tree_steps_are_workingsteps;
 use entity_types::Script;
-use exec_tree::Tree;
 use exec_tree::laws::{places_are_found, trees_are_sound, trees_tell};
+use exec_tree::{MAX_CHANNELS, Tree};
 use nc_base::{NoMemory, Number, Steps, Verdict};
 use nc_expr::Vars;
 use path_blocks::Def;
@@ -194,6 +199,21 @@ fn channel_of(tree: &Tree, entry: &Entry) -> u8
     }
 }
 
+/// Releases the mark that an entry sets, where it wasn't set: the waits for it may go on. Each wait is looked at once in a run.
+fn release_by(frames: &mut Frames, tree: &Tree, marks: &Marks, entry: &Entry)
+    requires at { (t : List Entry) × (released : List ℕ) × IsAt tree.now.nodes frames.old t × IsSorted tree.now frames.old t released }
+    requires mark { IfSome (marked entry.now) (λ n. has (nodes (tree_in tree.now)) n ≡ true) }
+    ensures at { (t : List Entry) → IsAt tree.now.nodes frames.old t → IsAt tree.now.nodes frames.new t }
+    ensures sorted { (t : List Entry) (released : List ℕ) → IsAt tree.now.nodes frames.old t → IsSorted tree.now frames.old t released → ((n : ℕ) → mark_in tree.now.nodes marks.now n ≡ has released n) → IsSorted tree.now frames.new t (released ++ option_to_list (marked entry.now)) }
+{
+    let Some(n) = mark_of(entry) else {
+        return;
+    };
+    if !is_marked(tree, marks, n) {
+        frames.release(tree, n);
+    }
+}
+
 impl RunState {
     /// The state of a run of a project and a script before its first entry, with room for so many.
     pub fn open(
@@ -247,13 +267,13 @@ impl RunState {
         trees_tell();
         next_stands_in_preorder();
         trees_are_sound();
-        let question = ReadyIn {
-            channel,
-            tree: &self.tree,
-            marks: &self.marks,
-            steps: &self.steps,
-        };
-        self.frames.first(&self.tree, &question)
+        logs_move();
+        self.tree.channel_table();
+        if channel >= MAX_CHANNELS {
+            return None;
+        }
+        let idle = self.steps.is_idle(channel);
+        self.frames.ready(&self.tree, channel, idle)
     }
 
     /// Whether the run can go on nowhere.
@@ -270,11 +290,8 @@ impl RunState {
         trees_tell();
         next_stands_in_preorder();
         trees_are_sound();
-        let question = Waitless {
-            tree: &self.tree,
-            marks: &self.marks,
-        };
-        self.frames.first(&self.tree, &question).is_none()
+        self.tree.channel_table();
+        self.frames.all_wait(&self.tree)
     }
 
     /// Whether each edit is judged.
@@ -368,6 +385,7 @@ impl RunState {
         let channel = channel_of(&self.tree, &entry);
         self.steps.follow(channel, &entry, def);
         self.edits.follow(&entry);
+        release_by(&mut self.frames, &self.tree, &self.marks, &entry);
         marks::follow(&mut self.marks, &self.tree, &entry);
         variables::follow(&mut self.vars, &self.tree, &entry);
         self.frames.advance(&self.tree, &entry);

@@ -1,6 +1,6 @@
 use Rattle.std.proofs.Common.{◌≡◌, ◌∙◌, ◌<◌, subst, sym, ap, ℕ, [], ◌∷◌, ◌++◌, List, true, length}
-use Rattle.std.specs.Prelude.{Option, Some, None, Bool, if◌then◌else◌, max}
-use Rattle.std.specs.Option.{option_map_or}
+use Rattle.std.specs.Prelude.{Option, Some, None, IfSome, Bool, if◌then◌else◌, max}
+use Rattle.std.specs.Option.{option_map_or, option_to_list}
 use Rattle.project_store.specs.Entities.{entity_at}
 use Rattle.exec_tree.specs.Exec.{Exec, has}
 use Rattle.exec_tree.specs.Exec as exec
@@ -12,6 +12,7 @@ use Rattle.exec_tree.specs.Built.{main_of, channel_in, channel_from}
 use Rattle.exec_tree.specs.declared.limits.TheConstants.{MAX_CHANNELS}
 use Rattle.trace_law.specs.Of.{number_of, has_some}
 use Rattle.trace_law.specs.Part.{Part}
+use Rattle.trace_law.specs.State.{marks, marked}
 use Rattle.trace_law.specs.Next.{next}
 use Rattle.run_log.specs.declared.entry.Entry.{Entry}
 use Rattle.run_law.specs.Fits.{Fits, plain}
@@ -25,6 +26,7 @@ use Rattle.run_core.specs.Edits.{AreKept}
 use Rattle.run_core.proofs.QuestionLemmas.{filter_has}
 use Rattle.run_core.proofs.KindLemmas.{store_done_by, works_has}
 use Rattle.run_core.proofs.FollowLemmas.{is_of_node, IsOfNode}
+use Rattle.run_core.proofs.ReadyLemmas.{mark_there}
 use Rattle.trace_law.specs.Offer.{offer, IsOffered}
 use Rattle.run_core.proofs.EditLemmas.{step_has_version}
 use Rattle.run_core.proofs.StateLemmas.{started_kind, Entered, state_follows, follows_is, channel_small}
@@ -77,9 +79,12 @@ invariant_of-self c =
           (λ m f. c.project_rules_move.ensures.kept p s t x m f) (λ m v. c.project_rules_move.ensures.dispatched p s t m v) defined;
     } in
     let held : Part (tree_in c.self.inside.tree) (u ++ x ∷ []) = subst (λ (y : Exec). Part y (u ++ x ∷ [])) (sym k.tree_is.held) part in
-    let now_at : IsAt c.self.inside.tree.nodes c.advance.new.self (u ++ x ∷ []) = c.advance.ensures.at u k.at held in
+    let freed_at = c.release_by.ensures.at u k.at in
+    let freed = c.release_by.ensures.sorted u (marks t) k.at k.sorted k.marks_are in
+    let now_at : IsAt c.self.inside.tree.nodes c.advance.new.self (u ++ x ∷ []) = c.advance.ensures.at u freed_at held in
+    let now_sorted = c.advance.ensures.sorted u (marks t ++ option_to_list (marked x)) freed_at held freed in
     let kept = state_follows p s c.self.inside.tree c.self.inside.frames c.advance.new.self t c.self.inside.marks c.follow-3.new.marks c.self.inside.vars c.follow-4.new.vars c.self.inside.steps c.follow.new.self
-    x n c.args.def c.channel_of-channel.result k entered now_at c.follow-3.ensures.count c.follow-3.ensures.flags c.follow-4.ensures
+    x n c.args.def c.channel_of-channel.result k entered now_at now_sorted (c.logs_move.ensures.marks t x) c.follow-3.ensures.count c.follow-3.ensures.flags c.follow-4.ensures
     (c.channel_of-channel.ensures ∙ (ap (λ (o : Option ℕ). option_map_or (λ m. channel_in c.self.inside.tree.nodes m) o 0) of_node.number
     ∙ c.trees_tell.ensures.channels nothing_seen (entity_at p) (main_of p) n c.self.inside.tree k.tree_is))
     c.follow.ensures in
@@ -102,7 +107,7 @@ advance-requires c =
     let u = plain t in
     let part : Part e (u ++ x ∷ []) = of_node.fits.goes_on in
     let ordered : IsNextOf e u x = subst (λ (v : State). IsNextOf ((rules_of v.project v.script).tree v.list) (plain v.list) x) (sym c.self.view_is) c.requires.in_order in
-    (u, k.at, subst (λ (y : Exec). Part y (u ++ x ∷ [])) (sym k.tree_is.held) part, subst (λ (y : Exec). IsNextOf y u x) (sym k.tree_is.held) ordered)
+    (u, c.release_by.ensures.at u k.at, subst (λ (y : Exec). Part y (u ++ x ∷ [])) (sym k.tree_is.held) part, subst (λ (y : Exec). IsNextOf y u x) (sym k.tree_is.held) ordered)
 
 pub follow-requires-2-clause-known : goal.follow-requires-2-clause-known
 follow-requires-2-clause-known c = λ n v f.
@@ -124,3 +129,24 @@ follow-requires-2-clause-known c = λ n v f.
     let steps = c.trees_are_sound.ensures.steps (entity_at p) (main_of p) in
     let works = works_has (entity_at p) (main_of p) n (c.trees_are_sound.ensures.nodes (entity_at p) (main_of p)) steps here kind in
     step_has_version p t c.self.inside.edits n c.self.invariant.1 (subst (λ (ns : List ℕ). has ns n ≡ true) steps works)
+
+pub release_by-requires-clause-at : goal.release_by-requires-clause-at
+release_by-requires-clause-at c = (plain c.self.inside.log.items, marks c.self.inside.log.items, c.self.invariant.0.at, c.self.invariant.0.sorted)
+
+pub release_by-requires-clause-mark : goal.release_by-requires-clause-mark
+release_by-requires-clause-mark c =
+    let p = c.self.inside.store in
+    let s = c.self.inside.edits.script in
+    let t = c.self.inside.log.items in
+    let k = c.self.invariant.0 in
+    let x = c.args.entry in
+    let e = tree_of (entity_at p) (main_of p) in
+    let u = plain t in
+    let d = c.trees_are_sound.ensures.distinct nothing_seen (entity_at p) (main_of p) k.tree_is.no_fault in
+    let fits : Fits (rules_of p s) t x = subst (λ (v : State). Fits (rules_of v.project v.script) v.list x) (sym c.self.view_is) c.requires.fits in
+    let of_node : IsOfNode (rules_of p s) t x = is_of_node (rules_of p s) t x c.requires.node fits in
+    let n = of_node.n in
+    let off = c.what_is_offered_follows.ensures.offered e u x n d of_node.fits.goes_on of_node.number in
+    let goes : has (next e u) n ≡ true = subst (λ (o : Option ℕ). has_some (next e u) o ≡ true) of_node.number off.0 in
+    let here : has (exec.nodes e) n ≡ true = filter_has (has (next e u)) (exec.nodes e) n (subst (λ (ns : List ℕ). has ns n ≡ true) (c.next_stands_in_preorder.ensures.order e u d) goes) in
+    subst (λ (y : Exec). IfSome (marked x) (λ m. has (exec.nodes y) m ≡ true)) (sym k.tree_is.held) (mark_there (exec.nodes e) x n of_node.number here)

@@ -38,6 +38,7 @@ invariant_of-result c =
     let kept : IsState p s tree c.in_ok-frames.frames [] c.in_ok-marks.marks c.in_ok-vars.vars c.in_ok-steps.steps = record {
       tree_is = c.parts-store.ensures.tree;
       at = c.in_ok-frames.ensures.at;
+      sorted = c.in_ok-frames.ensures.sorted;
       legal = c.legal_runs.ensures.none (rules_of p s);
       flags_fit = c.in_ok-marks.ensures.count ∙ c.len.ensures;
       marks_are = no_marks tree.nodes c.in_ok-marks.marks c.in_ok-marks.ensures.none;

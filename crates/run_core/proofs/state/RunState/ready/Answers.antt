@@ -1,14 +1,21 @@
-use Rattle.std.proofs.Common.{◌≡◌, ◌∙◌, subst}
+use Rattle.std.proofs.Common.{◌≡◌, ◌∙◌, ◌<◌, subst, sym, ℕ, List, length, arith}
+use Rattle.std.specs.Prelude.{max, None}
 use Rattle.project_store.specs.Entities.{entity_at}
 use Rattle.exec_tree.specs.TreeFault.{nothing_seen}
 use Rattle.exec_tree.specs.TreeOf.{tree_of}
-use Rattle.exec_tree.specs.Built.{main_of}
+use Rattle.exec_tree.specs.Built.{main_of, channel_from}
+use Rattle.exec_tree.specs.declared.limits.TheConstants.{MAX_CHANNELS}
+use Rattle.trace_law.specs.State.{marks}
 use Rattle.run_law.specs.Replay.{ready}
 use Rattle.project_law.specs.ProjectRules.{rules_of}
 use Rattle.run_law.specs.Fits.{plain}
 use Rattle.run_core.specs.Kept.{State}
-use Rattle.run_core.proofs.QuestionLemmas.{told, ready_is}
+use Rattle.run_core.proofs.QuestionLemmas.{told}
+use Rattle.run_core.proofs.ReadyLemmas.{ready_is, none_ready, within_limit}
 use Rattle.run_core.proofs.state.RunState.ready.Goals as goal
+
+pub ready-requires-clause-at : goal.ready-requires-clause-at
+ready-requires-clause-at c = (plain c.self.inside.log.items, marks c.self.inside.log.items, c.self.invariant.0.at, c.self.invariant.0.sorted)
 
 pub returns : goal.returns
 returns c =
@@ -20,8 +27,17 @@ returns c =
     let d = c.trees_are_sound.ensures.distinct nothing_seen (entity_at p) (main_of p) k.tree_is.no_fault in
     let tells = told p s c.self.inside.tree t k.tree_is (λ n. c.trees_tell.ensures.channels nothing_seen (entity_at p) (main_of p) n c.self.inside.tree k.tree_is)
     (λ n. c.trees_tell.ensures.roles nothing_seen (entity_at p) (main_of p) n c.self.inside.tree k.tree_is) (c.next_stands_in_preorder.ensures.order e (plain t) d) in
-    subst (λ (v : State). c.first.result ≡ ready (rules_of v.project v.script) v.list c.args.channel) c.self.view_is
-    (c.first.ensures (plain t) k.at ∙ ready_is (rules_of p s) t c.self.inside.tree c.self.inside.marks c.self.inside.steps c.args.channel tells k.steps_are k.marks_are)
+    subst (λ (v : State). c.ready.result ≡ ready (rules_of v.project v.script) v.list c.args.channel) c.self.view_is
+    (c.ready.ensures (plain t) (marks t) k.at k.sorted ∙ ready_is (rules_of p s) t c.self.inside.tree c.self.inside.steps c.args.channel c.is_idle-idle.result tells k.steps_are (c.logs_move.ensures.plain_stage t) c.is_idle-idle.ensures)
 
-pub first-requires : goal.first-requires
-first-requires c = (plain c.self.inside.log.items, c.self.invariant.0.at)
+pub returns-then-channel-ge-MAX_CHANNELS : goal.returns-then-channel-ge-MAX_CHANNELS
+returns-then-channel-ge-MAX_CHANNELS c =
+    let p = c.self.inside.store in
+    let s = c.self.inside.edits.script in
+    let t = c.self.inside.log.items in
+    let k = c.self.invariant.0 in
+    let channels = c.channel_table.result.now in
+    let few : (n : ℕ) → channel_from nothing_seen (entity_at p) (main_of p) n < max 1 (length channels) =
+    λ n. subst (λ (cs : List ℕ). channel_from nothing_seen (entity_at p) (main_of p) n < max 1 (length cs)) (sym (c.channel_table.ensures.table ∙ k.tree_is.channels)) (c.trees_are_sound.ensures.channels nothing_seen (entity_at p) (main_of p) n) in
+    subst (λ (v : State). None ≡ ready (rules_of v.project v.script) v.list c.args.channel) c.self.view_is
+    (sym (none_ready (rules_of p s) t c.args.channel (λ n. within_limit (channel_from nothing_seen (entity_at p) (main_of p) n) channels (few n) c.channel_table.ensures.few) (omega (arith, c.if-channel-ge-MAX_CHANNELS.true))))
