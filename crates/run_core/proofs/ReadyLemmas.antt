@@ -5,7 +5,7 @@ use Rattle.std.specs.List.{list_all}
 use Rattle.std.proofs.Common.{refl, sym, ap, subst, ◌∙◌, arith, cond}
 use Rattle.std.proofs.lemmas.Bool.Decides.{nat_tests}
 use Rattle.exec_tree.specs.Exec.{Exec, nodes, has}
-use Rattle.exec_tree.specs.Built.{TreeValue, channel_in, role_in}
+use Rattle.exec_tree.specs.Built.{TreeValue, role_in}
 use Rattle.exec_tree.specs.declared.role.Role.{Role}
 use Rattle.exec_tree.specs.declared.role.Role.TheVariants.{Cutting, Waiting, Free}
 use Rattle.exec_tree.specs.declared.limits.TheConstants.{MAX_CHANNELS}
