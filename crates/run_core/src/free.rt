@@ -150,7 +150,7 @@ impl FreeCore {
         ensures turn { turn (rules_of self.old.project self.old.script) self.old.limit self.old.log channel ≡ Some result }
         ensures log { self.new ≡ record self.old { log = self.old.log ++ result ∷ []; actors = self.old.actors ++ who ∷ [] } }
     {
-        let n = self.state.ready(channel).unwrap();
+        let n = self.ready(channel).unwrap().node;
         self.legal();
         legal_runs();
         what_is_made_fits();
