@@ -1,5 +1,5 @@
 -- A text is read in one way.
-use Rattle.std.proofs.Common.{◌≡◌, ℕ, ◌+◌, ◌<◌, ◌≤◌, ◌⊎◌, inl, inr, Bool, true, false, cond, leb, ltb, ◌&&◌, List, [], ◌∷◌, ◌++◌, length, get_or, Option, Some, None, Result, Ok, Err, refl, sym, ap, subst, ◌∙◌, append_assoc, append-nil, arith}
+use Rattle.std.proofs.Common.{◌≡◌, ℕ, ◌+◌, ◌<◌, ◌≤◌, Bool, true, List, [], ◌∷◌, ◌++◌, length, get_or, Some, Result, Ok, Err, refl, sym, ap, subst, ◌∙◌, append_assoc, append-nil, arith}
 use Rattle.std.specs.List.{list_all}
 use Rattle.std.proofs.lemmas.Bool.{lt-ltb, ltb-true}
 use Rattle.std.proofs.lemmas.List.{append_cancel_left, length-append}
@@ -9,13 +9,12 @@ use Rattle.run_log.specs.declared.entry.Entry.{Entry}
 use Rattle.run_log.specs.declared.entry.Entry.TheVariants as entries
 use Rattle.run_log.specs.declared.entry.Ending.{Ending}
 use Rattle.run_log.specs.declared.entry.Ending.TheVariants.{Done, Blocked, Limit}
-use Rattle.run_log.specs.LinesFrom.{lines_from}
-use Rattle.run_log.specs.LogText.{first_line, entry_line, line_after, last_line, ending_word, text_of}
+use Rattle.run_log.specs.LogText.{first_line, entry_line, line_after, last_line, text_of}
 use Rattle.log_read.specs.declared.error.LogErr.{LogErr}
 use Rattle.log_read.specs.declared.error.LogErr.TheVariants.{BadLine, NoEnd, NoMemory}
 use Rattle.log_read.specs.declared.rows.LogLine.{LogLine}
-use Rattle.log_read.specs.declared.rows.LogLine.TheVariants.{Of, Last}
-use Rattle.log_read.specs.Format.{Format, allows_all, Front, Nothing, Begun, Ended, front_text, line_count, front_entries, IsInPlace, Leaves, IsOpen, HasNoEnd, IsBadLine}
+use Rattle.log_read.specs.declared.rows.LogLine.TheVariants.{Of}
+use Rattle.log_read.specs.Format.{Format, allows_all, Front, Nothing, Begun, Ended, line_count, Leaves, IsOpen}
 use Rattle.log_read.specs.Apart.{AreApart}
 use Rattle.log_read.specs.Range.{is_in_range}
 use Rattle.log_read.specs.LogReads.{log_format, IsTextOf, IsRefused, Reads, Gives}

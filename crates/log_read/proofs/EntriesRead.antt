@@ -1,7 +1,7 @@
 -- Entries are read as they are written, and no others are.
-use Rattle.std.proofs.Common.{◌≡◌, ℕ, zero, suc, ◌+◌, ◌-◌, ◌^◌, ◌<◌, ◌≤◌, ℤ, Bool, true, false, cond, eqb, leb, ◌&&◌, List, [], ◌∷◌, ◌++◌, Option, Some, None, refl, sym, ap, subst, ◌∙◌, append_assoc, arith}
+use Rattle.std.proofs.Common.{◌≡◌, ℕ, zero, suc, ◌-◌, ◌^◌, ◌<◌, ◌≤◌, ℤ, Bool, true, false, eqb, List, [], ◌∷◌, ◌++◌, Option, Some, refl, sym, ap, subst, ◌∙◌, append_assoc, arith}
 use Rattle.std.specs.Prelude.{decimal}
-use Rattle.std.proofs.lemmas.Bool.{eqb-true, leb-true, le-leb, lt-ltb, ltb-true}
+use Rattle.std.proofs.lemmas.Bool.{leb-true, le-leb, lt-ltb}
 use Rattle.std.proofs.lemmas.Option.{some_pair_parts}
 use Rattle.std.proofs.lemmas.Fmt.{decimal_digit}
 use Rattle.nc_base.specs.declared.numbers.TheConstants.{MAX_NUMBER, MAX_THOUSANDTHS}
@@ -13,12 +13,12 @@ use Rattle.path_blocks.specs.declared.block.Block.TheVariants.{Tool, Rapid, Feed
 use Rattle.run_log.specs.declared.entry.Entry.{Entry}
 use Rattle.run_log.specs.declared.entry.Entry.TheVariants.{Dispatch, Block as Cut, End, Pick, Test, Assign, Set, Pass, Note, Edit}
 use Rattle.run_log.specs.Line.{line}
-use Rattle.run_log.specs.LogText.{block_words, answer_word, verdict_words, entry_line}
+use Rattle.run_log.specs.LogText.{block_words, verdict_words, entry_line}
 use Rattle.log_read.specs.Range.{is_from, is_number, is_within, is_block_in_range, is_verdict_in_range, is_in_range}
 use Rattle.log_read.specs.declared.limits.TheConstants.{MAX_VERSION, MAX_EDIT, MAX_RULE, MAX_PICK}
 use Rattle.log_read.specs.Reading.{◌>>=◌, byte_at, bytes_at, digits_at, ranged_at, field_at, length_at, block_at, one_at, two_at, end_at, set_at, pass_at, note_at, dispatch_at, cut_at, pick_at, test_at, assign_at, refusal_at, verdict_at, edit_at}
 use Rattle.log_read.proofs.WordsRead.{bind_some, both_pass, pass_both, in_from, from_in, byte_takes, byte_again, bytes_take, bytes_again, space_stops, end_stops, ranged_takes, ranged_again, field, field_takes, field_again, length_field, length_takes, length_again}
-use Rattle.log_read.proofs.BlocksRead.{ended, letter, IsBlockLine, block_takes, block_again}
+use Rattle.log_read.proofs.BlocksRead.{ended, letter, block_takes, block_again}
 
 -- the text begins with the line of this entry, and its numbers are in their ranges
 abbrev pub IsLineOf : List ℕ → Entry → List ℕ → Type 0

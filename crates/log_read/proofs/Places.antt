@@ -1,8 +1,8 @@
 -- Where a text leaves its format, it does so in one way.
-use Rattle.std.proofs.Common.{◌≡◌, ℕ, ◌+◌, ◌<◌, ◌≤◌, ◌⊎◌, inl, inr, Bool, true, false, ◌&&◌, List, [], ◌∷◌, ◌++◌, length, refl, sym, ap, subst, ◌∙◌, append_assoc, append-nil, arith}
+use Rattle.std.proofs.Common.{◌≡◌, ℕ, ◌<◌, inl, inr, true, List, [], ◌∷◌, ◌++◌, length, refl, sym, ap, subst, ◌∙◌, append_assoc, append-nil, arith}
 use Rattle.std.proofs.lemmas.List.{append_cancel_left, length-append}
 use Rattle.run_log.specs.LinesFrom.{lines_from}
-use Rattle.log_read.specs.Format.{Format, allows_all, Front, Nothing, Begun, Ended, front_text, line_count, front_entries, IsInPlace, Leaves, IsOpen, HasNoEnd, IsBadLine}
+use Rattle.log_read.specs.Format.{Format, allows_all, Front, Nothing, Begun, Ended, front_text, front_entries, IsInPlace, Leaves}
 use Rattle.log_read.specs.Apart.{AreApart}
 use Rattle.log_read.proofs.WordsRead.{both_pass}
 

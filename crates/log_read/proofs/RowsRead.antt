@@ -1,5 +1,5 @@
 -- Lines behind the first one are read as they are written, and no others are.
-use Rattle.std.proofs.Common.{◌≡◌, ℕ, ◌+◌, ◌^◌, ◌<◌, ◌≤◌, Bool, true, false, cond, eqb, ◌&&◌, List, [], ◌∷◌, ◌++◌, Option, Some, None, refl, sym, ap, subst, ◌∙◌, append_assoc, arith}
+use Rattle.std.proofs.Common.{◌≡◌, ℕ, ◌≤◌, true, List, [], ◌∷◌, ◌++◌, Option, Some, None, refl, sym, ap, subst, ◌∙◌, append_assoc, arith}
 use Rattle.std.specs.Prelude.{codes}
 use Rattle.std.proofs.lemmas.Bool.{leb-true, ltb-true}
 use Rattle.std.proofs.lemmas.Option.{some_pair_parts}
@@ -14,7 +14,7 @@ use Rattle.log_read.specs.declared.rows.LogLine.{LogLine}
 use Rattle.log_read.specs.declared.rows.LogLine.TheVariants.{Of, Last}
 use Rattle.log_read.specs.Range.{is_in_range}
 use Rattle.log_read.specs.declared.limits.TheConstants.{MAX_VERSION, MAX_EDIT, MAX_PICK}
-use Rattle.log_read.specs.Reading.{◌>>=◌, byte_at, bytes_at, field_at, end_at, set_at, pass_at, note_at, dispatch_at, cut_at, pick_at, test_at, assign_at, edit_at, ending_at, last_at, of_entry, row_at}
+use Rattle.log_read.specs.Reading.{◌>>=◌, bytes_at, field_at, end_at, set_at, pass_at, note_at, dispatch_at, cut_at, pick_at, test_at, assign_at, edit_at, ending_at, last_at, of_entry, row_at}
 use Rattle.log_read.proofs.WordsRead.{bind_some, both_pass, bytes_take, bytes_again, byte_again, end_stops, field, field_takes, field_again}
 use Rattle.log_read.proofs.BlocksRead.{ended, letter}
 use Rattle.log_read.proofs.EntriesRead.{IsLineOf, end_text, set_text, pass_text, note_text, dispatch_text, pick_text, assign_text, test_text, cut_text, edit_text, end_takes, set_takes, pass_takes, note_takes, dispatch_takes, pick_takes, cut_takes, test_takes, assign_takes, edit_takes, end_again, set_again, pass_again, note_again, dispatch_again, pick_again, cut_again, test_again, assign_again, edit_again}

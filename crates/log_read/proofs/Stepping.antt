@@ -1,5 +1,5 @@
 -- A log is read line by line.
-use Rattle.std.proofs.Common.{◌≡◌, ◌≢◌, ℕ, ◌+◌, ◌<◌, ◌≤◌, ◌⊎◌, inl, inr, Bool, true, false, ◌&&◌, List, [], ◌∷◌, ◌++◌, length, Option, Some, None, Result, Ok, Err, refl, sym, ap, subst, ◌∙◌, append_assoc, append-nil, arith}
+use Rattle.std.proofs.Common.{◌≡◌, ◌≢◌, ℕ, ◌+◌, ◌<◌, ◌≤◌, ◌⊎◌, inl, inr, true, List, [], ◌∷◌, ◌++◌, length, Some, None, Err, refl, sym, ap, ◌∙◌, append_assoc, append-nil, arith}
 use Rattle.std.proofs.lemmas.Bool.{lt-ltb, ltb-true}
 use Rattle.std.proofs.lemmas.List.{length-append}
 use Rattle.std.proofs.lemmas.Option.{none-some}
@@ -10,14 +10,13 @@ use Rattle.run_log.specs.LinesFrom.{lines_from}
 use Rattle.run_log.specs.LogText.{first_line, entry_line, line_after, last_line}
 use Rattle.log_read.specs.declared.error.LogErr.{LogErr}
 use Rattle.log_read.specs.declared.error.LogErr.TheVariants.{BadLine, NoEnd, NoMemory}
-use Rattle.log_read.specs.declared.rows.LogLine.{LogLine}
 use Rattle.log_read.specs.declared.rows.LogLine.TheVariants.{Of, Last}
-use Rattle.log_read.specs.Format.{allows_all, Front, Nothing, Begun, Ended, IsInPlace, Leaves, HasNoEnd, IsBadLine}
+use Rattle.log_read.specs.Format.{Nothing, Begun, Ended, IsInPlace, HasNoEnd, IsBadLine}
 use Rattle.log_read.specs.Range.{is_in_range}
 use Rattle.log_read.specs.LogReads.{log_format, IsTextOf, IsRefused, Reads}
 use Rattle.log_read.specs.Reading.{bytes_at, row_at}
 use Rattle.log_read.specs.Steps.{IsReadTo}
-use Rattle.log_read.proofs.WordsRead.{both_pass, pass_both, bytes_take, bytes_again}
+use Rattle.log_read.proofs.WordsRead.{both_pass, pass_both, bytes_again}
 use Rattle.log_read.proofs.RowsRead.{row_takes, row_again, row_again_last}
 use Rattle.log_read.proofs.Answering.{same_line, entry_some, from_good, good_more}
 

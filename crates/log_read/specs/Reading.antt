@@ -1,5 +1,5 @@
 -- What stands at the front of a text, and the text behind it. The laws above say that these are the words of log texts.
-use Rattle.std.specs.Prelude.{ℕ, ◌+◌, ◌-◌, ◌*◌, ℤ, pos, neg_ℤ, nat_le, Bool, true, false, ◌&&◌, ◌==◌, List, [], ◌∷◌, Option, Some, None, if◌then◌else◌, codes}
+use Rattle.std.specs.Prelude.{ℕ, ◌+◌, ◌-◌, ◌*◌, ℤ, pos, neg_ℤ, nat_le, Bool, ◌&&◌, ◌==◌, List, [], ◌∷◌, Option, Some, None, if◌then◌else◌, codes}
 use Rattle.nc_base.specs.declared.numbers.TheConstants.{MAX_NUMBER, MAX_THOUSANDTHS}
 use Rattle.nc_base.specs.declared.verdict.Verdict.{Verdict}
 use Rattle.nc_base.specs.declared.verdict.Verdict.TheVariants.{Accepted, Refused}

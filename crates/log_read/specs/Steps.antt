@@ -2,7 +2,6 @@
 use Rattle.std.specs.Prelude.{◌≡◌, ℕ, ◌<◌, true, List, [], ◌++◌, length, Result, Ok, Err}
 use Rattle.run_log.specs.declared.entry.TheConstants.{MAX_ENTRIES}
 use Rattle.run_log.specs.declared.entry.Entry.{Entry}
-use Rattle.run_log.specs.declared.entry.Ending.{Ending}
 use Rattle.run_log.specs.LinesFrom.{lines_from}
 use Rattle.run_log.specs.LogText.{first_line, entry_line, line_after, last_line}
 use Rattle.log_read.specs.declared.error.LogErr.{LogErr}

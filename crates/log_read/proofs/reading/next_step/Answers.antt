@@ -1,4 +1,4 @@
-use Rattle.std.proofs.Common.{◌≡◌, ◌<◌, ◌≤◌, length, Option, Some, None, sym, arith}
+use Rattle.std.proofs.Common.{◌≡◌, Some, sym, arith}
 use Rattle.std.proofs.lemmas.Bool.Decides.{nat_tests}
 use Rattle.log_read.specs.declared.rows.LogLine.TheVariants.{Of, Last}
 use Rattle.log_read.specs.Reading.{row_at}
