@@ -24,6 +24,11 @@ fn expect_least(rt: &impl Abort, set: &PlaceSet, list: &[u32]) {
     expect(rt, set.first(), list.iter().copied().min());
 }
 
+fn expect_next(rt: &impl Abort, set: &PlaceSet, list: &[u32], place: u32) {
+    let next = list.iter().copied().filter(|p| *p >= place).min();
+    expect(rt, set.first_from(place), next);
+}
+
 fn turn(set: &mut PlaceSet, list: &mut Vec<u32>, place: u32) -> Result<(), Fail>
     requires { place < MAX_PLACES }
 {
@@ -46,8 +51,10 @@ fn sets_hold_what_lists_hold(rt: HostRuntime) -> Result<(), Fail> {
         turn(&mut set, &mut list, place)?;
         for other in TURNS {
             expect_place(&rt, &set, &list, other);
+            expect_next(&rt, &set, &list, other);
         }
         expect_least(&rt, &set, &list);
+        expect_next(&rt, &set, &list, MAX_PLACES);
     }
     assert!(&rt; set.is_empty());
     Ok(())
