@@ -15,6 +15,7 @@ pub mod LedLemmas
 pub mod GoingLemmas
 pub mod OpenedLemmas
 pub mod LookLemmas
+pub mod WayLookLemmas
 pub mod OpensLemmas
 pub mod ComeLemmas
 pub mod BoundLemmas

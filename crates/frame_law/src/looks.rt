@@ -1,16 +1,18 @@
 //! How many nodes one entry looks at, and that it opens no more than the nodes to which the run comes by it. Each function's contract is the law, and its body is empty.
 
 ghost use Rattle.std.specs.Prelude.{◌≡◌, ◌≤◌, ◌+◌, ◌*◌, ◌⊎◌, ◌++◌, ◌∷◌, ℕ, true, false, List, [], length, Option};
-ghost use Rattle.exec_tree.specs.Exec.{Exec, Execs, has};
+ghost use Rattle.exec_tree.specs.Exec.{Exec, Execs, nodes, has, AreDistinct};
 ghost use Rattle.entity_types.specs.declared.entity.Entity.{Entity};
 ghost use Rattle.exec_tree.specs.TreeOf.{tree_of};
 ghost use Rattle.trace_law.specs.Next.{next};
 ghost use Rattle.trace_law.specs.Cells.{Cell};
+ghost use Rattle.trace_law.specs.Leading.{leads};
 ghost use Rattle.run_log.specs.declared.entry.Entry.{Entry};
-ghost use Rattle.frame_law.specs.Way.{Follows};
+ghost use Rattle.frame_law.specs.Executable.{executable_at};
+ghost use Rattle.frame_law.specs.Way.{Follows, AreKeptBut};
 ghost use Rattle.frame_law.specs.Onward.{Done, onward};
 ghost use Rattle.frame_law.specs.ComeTo.{come_to, come_to_in_order, nesting, turned, new_in};
-ghost use Rattle.frame_law.specs.Looks.{finding, opening, opening_first, picks_on, looks, opened, AreNumbered, AreNumberedAll};
+ghost use Rattle.frame_law.specs.Looks.{finding, opening, opening_first, way_looks, picks_on, looks, opened, AreNumbered, AreNumberedAll};
 
 /// In the tree of a store each element has a number, but for the branches that ifs leave out.
 pub fn trees_are_numbered()
@@ -27,6 +29,16 @@ pub fn the_way_is_short()
 pub fn what_is_opened_is_looked_at_twice()
     ensures executable { (e : Exec) → AreNumbered e → finding e + opening e ≤ 2 * length (come_to e []) + 1 }
     ensures elements { (es : Execs) → AreNumberedAll es → opening_first es ≤ 2 * length (come_to_in_order es []) }
+{}
+
+/// To open an executable where opening leads takes no more looks than to open it.
+pub fn where_it_leads_is_opened_as_soon()
+    ensures { (e : Exec) → opening (leads e) ≤ opening e }
+{}
+
+/// What is written at a node and within it changes none of the looks on the way up from the node.
+pub fn the_way_is_looked_at_alike()
+    ensures { (c c' : ℕ → Cell) (e : Exec) (m : ℕ) → AreDistinct (nodes e) → AreKeptBut c c' (nodes (executable_at e m)) → way_looks c' (onward e Done m) ≡ way_looks c (onward e Done m) }
 {}
 
 /// An entry looks at its own node, at one more for the branch that an if leaves out, once at each non-sequential on the way up, of which there are at most as many as the

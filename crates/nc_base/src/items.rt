@@ -1,6 +1,6 @@
 //! A list of items of any one type.
 
-ghost use Rattle.std.specs.Prelude.{◌≡◌, ◌+◌, ◌<◌, [], ◌∷◌, ◌++◌, length, OnOk, OnErr, IfSome, IsNone, IfNone, IfOk, ◌↔◌, IsTrue, slice_get, Some};
+ghost use Rattle.std.specs.Prelude.{◌≡◌, ◌+◌, ◌<◌, ◌^◌, [], ◌∷◌, ◌++◌, length, OnOk, OnErr, IfSome, IsNone, IfNone, IfOk, ◌↔◌, IsTrue, slice_get, Some};
 
 use crate::memory::NoMemory;
 use std::alloc::Global;
@@ -40,6 +40,14 @@ impl<T> ItemList<T> {
         Ok(ItemList {
             items: Vec::with_capacity(alloc, capacity as usize)?,
         })
+    }
+
+    /// The items of a vector, which is taken over as it is, without a copy.
+    pub fn of(items: Vec<T>) -> Self
+        requires { length items.items < 2 ^ 32 }
+        ensures { result ≡ items.items }
+    {
+        ItemList { items }
     }
 
     /// How many items there are.
