@@ -8,6 +8,7 @@ import re
 from fractions import Fraction
 from pathlib import Path
 
+import big_case
 import edits
 import runs
 
@@ -1018,11 +1019,39 @@ def run(tree, steps, script, schedule, limit):
     return status, "".join(line + "\n" for line in ["STEPNC-LOG 1"] + entries + [f"end {word} {len(entries)}"])
 
 
+def big(steps, start):
+    """The line of counts of a large case: its project, run under its script with no schedule, up to the greatest log."""
+    project, script = (text.encode() for text in big_case.texts(steps, start))
+    tree, _ = accepted(project)
+    try:
+        revisions = revisions_of(tree, script_of(script))
+    except Refused as refusal:
+        return SCRIPT_REFUSED, refusal.line.encode()
+    entries, ending = runs.replay(
+        tree.store, tree.root(), lambda store, number: path(definition(store, number)), [], MOST_ENTRIES, revisions
+    )
+    letters = [entry.split() for entry in entries]
+    blocks, taken, refused = (
+        sum(test(words) for words in letters)
+        for test in (lambda w: w[0] == "B", lambda w: w[0] == "X" and w[2] == "ok", lambda w: w[0] == "X" and w[2] == "no")
+    )
+    word = ENDINGS[ending][1]
+    return DONE, f"big {steps} {start} {word} entries {len(entries)} blocks {blocks} accepted {taken} refused {refused}\n".encode()
+
+
 NUMBER_WORD = re.compile(r"[1-9][0-9]*")
 
 
 def is_limit(word):
     return bool(NUMBER_WORD.fullmatch(word)) and len(word) <= 7 and int(word) <= MOST_ENTRIES
+
+
+def is_step_count(word):
+    return bool(NUMBER_WORD.fullmatch(word)) and len(word) <= 7 and int(word) <= 1_000
+
+
+def is_start(word):
+    return word == "0" or bool(NUMBER_WORD.fullmatch(word)) and len(word) <= 7
 
 
 def is_step_number(word):
@@ -1036,6 +1065,7 @@ def is_file_name(word):
 LINES = [
     [lambda word: word == "replay", is_file_name, is_file_name, is_file_name, is_limit],
     [lambda word: word == "path", is_file_name, is_step_number],
+    [lambda word: word == "big", is_step_count, is_start],
     [lambda word: word == "--help"],
     [lambda word: word == "--version"],
 ]
@@ -1082,6 +1112,11 @@ def answer(words, read):
         return BAD_WORDS, Refused("BadWords", place).line.encode()
     if words[0] in ("--help", "--version"):
         return DONE, text_in_formats(words[0]).encode()
+    if words[0] == "big":
+        try:
+            return big(int(words[1]), int(words[2]))
+        except Refused as refusal:
+            return PROJECT_REFUSED, refusal.line.encode()
     data = read(words[1])
     if data is None:
         return READ_FAULT, b""

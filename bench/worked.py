@@ -236,6 +236,7 @@ def cases():
         yield f"a run of {short(instances)} by {schedule!r} up to {limit}", given, worked_runs.answer_of(log)
     yield from schedule_cases()
     yield from script_cases()
+    yield from large_cases()
     yield from in_whole_lists()
     for text, said in TEXTS:
         yield repr(text), ask(REPLAY, text), refusal(said) if said else (0, DONE_EMPTY.encode())
@@ -293,6 +294,16 @@ def script_cases():
     yield "a script, and no schedule", ask_files(words, {"P": hole, "E": b""}), (oracle.READ_FAULT, b"")
     yield "a script too long", ask_files(words, {"P": hole, "E": b" " * (oracle.MOST_BYTES + 1)}), refusal("TooLong", oracle.SCRIPT_REFUSED)
     yield "a refused project and no script", ask_files(words, {"P": b""}), refusal("Syntax 0")
+
+
+def large_cases():
+    """The line of the large case. `big 1 7` is a pocket of depth 25 on five levels with two rings, and the last workingstep of `big 3 0` a face of depth 3 with
+    six rows; beside its blocks each workingstep has two entries, and the two marks and the two waits have one each."""
+    for steps, start, entries, blocks in ((1, 0, 12, 6), (1, 7, 69, 63), (3, 0, 39, 29)):
+        line = f"big {steps} {start} done entries {entries} blocks {blocks} accepted 0 refused 0\n"
+        yield f"big {steps} {start}", oracle.answer(["big", str(steps), str(start)], None), (oracle.DONE, line.encode())
+    for words, place in (("0 0", 1), ("1001 0", 1), ("01 0", 1), ("1", 2), ("1 00", 2), ("1 10000000", 2), ("1 0 0", 3)):
+        yield f"big {words}", oracle.answer(["big"] + words.split(), None), refusal(f"BadWords {place}", oracle.BAD_WORDS)
 
 
 def in_whole_lists():

@@ -1,0 +1,7 @@
+mod Putting
+mod DrawLemmas
+mod Fine
+mod Rising
+mod StepRises
+mod FrontRises
+mod Whole

@@ -1,0 +1,12 @@
+use Rattle.std.proofs.Common.{◌+◌, List, [], ◌∷◌, ◌++◌, refl, codes}
+use Rattle.p21_parse.specs.Tree.{Tree}
+use Rattle.big_case.specs.Project.{operation_front}
+use Rattle.big_case.specs.Parameters.{real, unset}
+use Rattle.big_case.proofs.Putting.{then_last, put_known}
+use Rattle.big_case.proofs.operations.put_face_milling.Goals as goal
+
+pub returns : goal.returns
+returns c =
+    let front : List Tree = operation_front ++ unset ∷ unset ∷ unset ∷ unset ∷ unset ∷ real (codes "5.") ∷ [] in
+    let p1 = then_last _ _ front unset _ c.in_ok-params.ensures refl c.in_ok-push.ensures.ok in
+    put_known c.put.result (c.args.n + 2) (codes "PLANE_ROUGH_MILLING") _ _ _ _ p1 c.put.ensures

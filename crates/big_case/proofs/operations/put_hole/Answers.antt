@@ -1,0 +1,10 @@
+use Rattle.std.proofs.Common.{◌+◌, codes}
+use Rattle.big_case.specs.Project.{feature_front}
+use Rattle.big_case.specs.Parameters.{real}
+use Rattle.big_case.proofs.Putting.{then_last, put_known}
+use Rattle.big_case.proofs.operations.put_hole.Goals as goal
+
+pub returns : goal.returns
+returns c =
+    let p1 = then_last _ _ (feature_front c.args.n) (real (codes "10.")) _ c.in_ok-params.ensures c.in_ok-real.ensures c.in_ok-push.ensures.ok in
+    put_known c.put.result (c.args.n + 1) (codes "ROUND_HOLE") _ _ _ _ p1 c.put.ensures

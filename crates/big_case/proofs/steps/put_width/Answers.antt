@@ -1,0 +1,10 @@
+use Rattle.std.proofs.Common.{[], ◌∷◌, refl, codes}
+use Rattle.big_case.specs.Parameters.{real, unset}
+use Rattle.big_case.proofs.Putting.{then_last, put_known}
+use Rattle.big_case.proofs.steps.put_width.Goals as goal
+
+pub returns : goal.returns
+returns c =
+    let p1 = then_last _ _ [] unset _ c.in_ok-params.ensures refl c.in_ok-push.ensures.ok in
+    let p2 = then_last _ _ (unset ∷ []) (real (codes "50.")) _ p1 c.in_ok-real.ensures c.in_ok-push-2.ensures.ok in
+    put_known c.put.result c.args.n (codes "LINEAR_PROFILE") _ _ _ _ p2 c.put.ensures

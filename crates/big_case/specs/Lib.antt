@@ -1,0 +1,5 @@
+pub mod Draws
+pub mod Parameters
+pub mod Project
+pub mod Script
+pub mod Adds
