@@ -7,13 +7,14 @@ use crate::logs::{log_of, number};
 use crate::projects::project;
 use edit_rules::Project;
 use entity_types::Script;
-use nc_base::NoMemory;
+use nc_base::{NoMemory, Steps};
 use nc_outside::MemorySink;
-use run_core::{Action, RunCore, RunName, Standing};
+use run_core::{Acted, Action, PathUse, RunCore, RunName, Standing};
 use run_log::{Ending, Entry, write};
 use std::alloc::Global;
 use std::marker::Brand;
 use std::process::Abort;
+use std::sync::ledger::{Blank, Ledger};
 use std::test::Fail;
 
 /// A step and a mark in channel 0, and in channel 1 a wait for that mark and a message.
@@ -25,7 +26,7 @@ const MEETING: &str =
 const MEETING_TURNS: &str = "5 1|Ready - -\n\
     5 2|Ready - -\n\
     5 200|Ready - -\n\
-    3 0|Ready 10 starts|D 10 0\n\
+    3 0|Ready 10 starts|D 10 0 own\n\
     3 1|Ready - -\n\
     4 0|Ready 10 -|B 10 0 T 44 20000\n\
     0 0|Ready 10 -|B 10 1 R 10000 20000 30000\n\
@@ -43,7 +44,7 @@ const MEETING_TURNS: &str = "5 1|Ready - -\n\
     2 0|Done - -\n";
 
 /// The same with room for two entries alone.
-const SHORT_TURNS: &str = "3 0|Ready 10 starts|D 10 0\n\
+const SHORT_TURNS: &str = "3 0|Ready 10 starts|D 10 0 own\n\
     4 0|Ready 10 -|B 10 0 T 44 20000\n\
     4 0|Limit 10 -\n\
     4 1|Limit - -\n";
@@ -62,8 +63,8 @@ const HELD_BACK: &str =
     "#2=WORKPLAN('',(#3),$);#3=PARALLEL('',(#4,#5,#6));#4=WORKPLAN('',(#11,#10),#21);#5=WORKPLAN('',(#9),#21);#6=WORKPLAN('',(#8,#12),#22);#8=MACHINING_WORKINGSTEP('',#150,#120,#130);#9=MACHINING_WORKINGSTEP('',#150,#120,#130);#10=MACHINING_WORKINGSTEP('',#150,#120,#130);#11=WAIT_FOR_MARK('',#12);#12=SET_MARK('');#21=CHANNEL('');#22=CHANNEL('');";
 
 /// Up to seven entries.
-const HELD_BACK_TURNS: &str = "0 0|Ready 9 starts|D 9 0\n\
-    1 1|Ready 8 starts|D 8 0\n\
+const HELD_BACK_TURNS: &str = "0 0|Ready 9 starts|D 9 0 own\n\
+    1 1|Ready 8 starts|D 8 0 own\n\
     0 0|Ready 9 -|B 9 0 T 44 20000\n\
     1 1|Ready 8 -|B 8 0 T 44 20000\n\
     1 1|Ready 8 -|B 8 1 R 10000 20000 30000\n\
@@ -90,14 +91,19 @@ fn shown(alloc: Global, standing: Standing, action: Option<Action>) -> Result<St
     Ok(format!(in alloc; "{standing:?} {node} {starts}")?)
 }
 
-/// The entry of a turn of a channel, where there is one.
-fn acted<N: RunName>(core: &mut RunCore<N>, who: u8, channel: u8) -> Option<Entry> {
+/// What a turn of a channel does, where it does anything.
+fn acted<N: RunName, L: Ledger>(
+    core: &mut RunCore<N>,
+    who: u8,
+    channel: u8,
+    steps: &mut Steps<L>,
+) -> Option<Acted> {
     if who >= 16 {
         return None;
     }
     match core.standing() {
         Standing::Ready => match core.ready(channel) {
-            Some(_) => Some(core.act(who, channel)),
+            Some(_) => Some(core.act(who, channel, steps)),
             None => None,
         },
         _ => None,
@@ -114,13 +120,27 @@ fn who_and_channel(row: &str) -> (u8, u8) {
     )
 }
 
+/// The line of an entry, and after that of a dispatch whose path it goes by.
+fn deed_of(alloc: Global, deed: Acted) -> Result<String, Fail> {
+    let mut line = line_of(alloc, deed.entry)?;
+    if deed.path == PathUse::Own {
+        line.push_str(" own")?;
+    }
+    Ok(line)
+}
+
 /// The row of a turn, as it is found.
-fn turned<N: RunName>(alloc: Global, core: &mut RunCore<N>, row: &str) -> Result<String, Fail> {
+fn turned<N: RunName, L: Ledger>(
+    alloc: Global,
+    core: &mut RunCore<N>,
+    row: &str,
+    steps: &mut Steps<L>,
+) -> Result<String, Fail> {
     let (who, channel) = who_and_channel(row);
     let mut found = shown(alloc, core.standing(), core.ready(channel))?;
-    if let Some(entry) = acted(core, who, channel) {
+    if let Some(deed) = acted(core, who, channel, steps) {
         found.push_str("|")?;
-        found.push_str(&line_of(alloc, entry)?)?;
+        found.push_str(&deed_of(alloc, deed)?)?;
     }
     Ok(format!(in alloc; "{who} {channel}|{found}\n")?)
 }
@@ -136,39 +156,47 @@ fn deeds(alloc: Global, log: &[Entry], actors: &[u8]) -> Result<String, Fail> {
 }
 
 /// What is found in these turns of a core, and who did what.
-fn turns_of<N: RunName>(
+fn turns_of<N: RunName, L: Ledger>(
     alloc: Global,
     core: &mut RunCore<N>,
     rows: &String,
+    steps: &mut Steps<L>,
 ) -> Result<String, Fail> {
     let mut found = String::new(alloc);
     for row in rows.lines() {
-        found.push_str(&turned(alloc, core, row)?)?;
+        found.push_str(&turned(alloc, core, row, steps)?)?;
     }
     found.push_str(&deeds(alloc, core.log(), core.actors())?)?;
     Ok(found)
 }
 
 /// What is found in these turns of a new core. It holds the core, so it does nothing else: each way out of it drops a core.
-fn walked<N: RunName>(
+fn walked<N: RunName, L: Ledger>(
     alloc: Global,
     project: Project,
     limit: u32,
     rows: &String,
+    blank: Blank,
 ) -> Result<String, Fail>
     requires limited { (1 ≤ limit) × (limit ≤ MAX_ENTRIES) }
     requires project { project ≡ N.project }
     requires script { N.script ≡ [] }
     requires limit { limit ≡ N.limit }
+    requires name { blank.name ≡ L.name }
+    requires parts { blank.parts ≡ L.parts }
+    requires one { blank.parts ≡ 1 }
 {
+    let (book, share) = blank.open::<L>();
+    let mut counter = Steps::new(book, share);
     let mut core = RunCore::<N>::open(alloc, project, Script::new(alloc), limit)?;
-    turns_of(alloc, &mut core, rows)
+    turns_of(alloc, &mut core, rows, &mut counter)
 }
 
 fn found(alloc: Global, project: Project, limit: u32, rows: &str) -> Result<String, Fail>
     requires { (1 ≤ limit) × (limit ≤ MAX_ENTRIES) }
 {
-    walked::<Brand>(alloc, project, limit, &String::from_str(alloc, rows)?)
+    let rows = String::from_str(alloc, rows)?;
+    walked::<Brand, Brand>(alloc, project, limit, &rows, Blank::new(1))
 }
 
 /// What is to be found: the rows, and behind them the actor of each entry with it.
@@ -178,6 +206,7 @@ fn wanted(alloc: Global, rows: &str) -> Result<String, Fail> {
         let (_, rest) = row.split_once('|').unwrap_or((row, ""));
         if let Some((_, entry)) = rest.split_once('|') {
             let (who, _) = who_and_channel(row);
+            let entry = entry.strip_suffix(" own").unwrap_or(entry);
             text.push_str(&format!(in alloc; "{who}: {entry}\n")?)?;
         }
     }

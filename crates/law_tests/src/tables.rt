@@ -1,12 +1,17 @@
 //! Tables of trees.
 
+ghost use Rattle.std.specs.Prelude.{◌≡◌};
+ghost use Rattle.tree_table.specs.Table.{IsTable};
+
 use crate::rows::PROJECTS;
 use crate::trees::tree;
 use exec_tree::Tree;
-use nc_base::Number;
+use nc_base::{Number, Steps};
 use place_set::{MAX_PLACES, PlaceSet};
 use std::alloc::Global;
+use std::marker::Brand;
 use std::process::Abort;
+use std::sync::ledger::{Blank, Ledger};
 use std::test::Fail;
 use trace_law::next;
 use tree_table::{Continuation, Row, Table};
@@ -66,11 +71,23 @@ fn numbers_in(alloc: Global, tree: &Tree, set: &PlaceSet) -> Result<Vec<Number>,
     Ok(numbers)
 }
 
+// Opens the tree by its table, with the looks counted on this ledger.
+fn open_counted<L: Ledger>(table: &Table, tree: &Tree, set: &mut PlaceSet, blank: Blank)
+    requires name { blank.name ≡ L.name }
+    requires parts { blank.parts ≡ L.parts }
+    requires one { blank.parts ≡ 1 }
+    requires table { IsTable tree.now.nodes table.now.rows.items }
+{
+    let (book, share) = blank.open::<L>();
+    let mut steps = Steps::new(book, share);
+    table.open_tree(tree, set, &mut steps);
+}
+
 // Stops unless opening the tree by its table gives the nodes where a run begins.
 fn expect_opened(rt: &impl Abort, alloc: Global, tree: &Tree) -> Result<(), Fail> {
     let table = Table::new(alloc, tree)?;
     let mut set = PlaceSet::new();
-    table.open_tree(tree, &mut set);
+    open_counted::<Brand>(&table, tree, &mut set, Blank::new(1));
     let begins = next(alloc, tree, &[])?;
     assert_eq!(rt;
         numbers_in(alloc, tree, &set)?.as_slice(),

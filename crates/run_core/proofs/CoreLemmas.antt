@@ -9,7 +9,8 @@ use Rattle.run_law.specs.Rules.{Rules}
 use Rattle.run_law.specs.Fits.{judged, next_of, is_due, is_enabled}
 use Rattle.run_law.specs.Endings.{waits}
 use Rattle.run_law.specs.Replay.{made, ready, turn, has_ended, turns_of, rounds}
-use Rattle.run_core.specs.Standings.{is_empty, standing_by, standing_of, is_over}
+use Rattle.run_frames.specs.Ready.{is_empty}
+use Rattle.run_core.specs.Standings.{standing_by, standing_of, is_over}
 use Rattle.run_core.specs.declared.standings.Standing.{Standing}
 use Rattle.run_core.specs.declared.standings.Standing.TheVariants.{Done, Blocked, EditDue, Ready}
 

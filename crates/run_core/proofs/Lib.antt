@@ -1,4 +1,5 @@
 pub mod SlotLemmas
+pub mod PlaceLemmas
 pub mod OpeningLemmas
 pub mod QuestionLemmas
 pub mod KindLemmas

@@ -16,7 +16,7 @@ use Rattle.exec_tree.specs.declared.kind.Kind.TheVariants as kinds
 use Rattle.exec_tree.specs.Executable.{kind_at}
 use Rattle.exec_tree.specs.Said.{Said, said_for}
 use Rattle.exec_tree.specs.TreeFault.{walk_of}
-use Rattle.exec_tree.specs.Built.{TreeValue, said_in, main_of}
+use Rattle.exec_tree.specs.Built.{TreeValue, main_of}
 use Rattle.trace_law.specs.Below.{tree_in}
 use Rattle.trace_law.specs.State.{stage}
 use Rattle.trace_law.specs.Offer.{Offer, Cuts, Picks, offer, IsOpen}
@@ -92,19 +92,20 @@ started_by deeds.Tests e = absurd (cc)
 -- ---- the entry of a node
 
 -- what is known of node n where it is asked for its entry
-pub record Asked (project : List Entity) (script : List ScriptEdit) (t : List Entry) (tree : TreeValue) (vars : List (ℕ × ℤ)) (slots : List (Option OpenStep)) (version : ℕ) (n : ℕ) : Type 0 where
+pub record Asked (project : List Entity) (script : List ScriptEdit) (t : List Entry) (tree : TreeValue) (channel : ℕ) (said : Option Said) (vars : List (ℕ × ℤ)) (slots : List (Option OpenStep)) (version : ℕ) (n : ℕ) : Type 0 where
   pub tells : Told (rules_of project script) t tree
   pub kept : AreOpen (rules_of project script) t slots
   pub vars_are : (v : ℕ) → value_at vars v ≡ vars_after script project t v
   pub version_is : offer ((rules_of project script).tree t) (plain t) n ≡ offers.Starts → (rules_of project script).version t n ≡ version
-  pub said : said_in tree n ≡ Some (said_for (entity_at project) (kind_at (entity_at project n)) (entity_at project n))
+  pub channel_is : channel ≡ (rules_of project script).channel t n
+  pub said_is : said ≡ Some (said_for (entity_at project) (kind_at (entity_at project n)) (entity_at project n))
   pub done_by : IsDoneBy (offer ((rules_of project script).tree t) (plain t) n) (kind_at (entity_at project n))
   pub counted : (k : ℕ) → offer ((rules_of project script).tree t) (plain t) n ≡ Cuts k → stage n t ≡ Some k
   pub free : IsOpen (offer ((rules_of project script).tree t) (plain t) n)
 
-pub entry_is : (project : List Entity) (script : List ScriptEdit) (t : List Entry) (tree : TreeValue) (vars : List (ℕ × ℤ)) (slots : List (Option OpenStep)) (version : ℕ) (n : ℕ) → Asked project script t tree vars slots version n
-    → (deed : Deed) → deed_offer deed ≡ offer ((rules_of project script).tree t) (plain t) n → entry_by tree slots (value_at vars) version n deed ≡ made_by (rules_of project script) t n (deed_offer deed)
-entry_is project script t tree vars slots version n a deed e = go deed e
+pub entry_is : (project : List Entity) (script : List ScriptEdit) (t : List Entry) (tree : TreeValue) (channel : ℕ) (said : Option Said) (vars : List (ℕ × ℤ)) (slots : List (Option OpenStep)) (version : ℕ) (n : ℕ) → Asked project script t tree channel said vars slots version n
+    → (deed : Deed) → deed_offer deed ≡ offer ((rules_of project script).tree t) (plain t) n → entry_by channel said slots (value_at vars) version n deed ≡ made_by (rules_of project script) t n (deed_offer deed)
+entry_is project script t tree channel said vars slots version n a deed e = go deed e
   where
     values : value_at vars ≡ (λ v. vars_after script project t v)
     values = λ i v. a.vars_are v i
@@ -113,20 +114,20 @@ entry_is project script t tree vars slots version n a deed e = go deed e
     done d f = subst (λ (o : Offer). IsDoneBy o (kind_at (entity_at project n))) (sym f) a.done_by
 
     tested : (kind_at (entity_at project n) ≡ kinds.If) ⊎ (kind_at (entity_at project n) ≡ kinds.While)
-        → answer_said (value_at vars) (said_in tree n) ≡ (rules_of project script).answer t n
-    tested (inl k) = answer_is (entity_at project) (value_at vars) n (said_in tree n) a.said kinds.If k ∙ ap (λ (f : ℕ → ℤ). answer_by project f n) values
-    tested (inr k) = answer_is (entity_at project) (value_at vars) n (said_in tree n) a.said kinds.While k ∙ ap (λ (f : ℕ → ℤ). answer_by project f n) values
+        → answer_said (value_at vars) said ≡ (rules_of project script).answer t n
+    tested (inl k) = answer_is (entity_at project) (value_at vars) n said a.said_is kinds.If k ∙ ap (λ (f : ℕ → ℤ). answer_by project f n) values
+    tested (inr k) = answer_is (entity_at project) (value_at vars) n said a.said_is kinds.While k ∙ ap (λ (f : ℕ → ℤ). answer_by project f n) values
 
     least : (count picked : ℕ) → IsOpen (Picks count (upto picked)) → picked ≡ least_left count (upto picked)
     least count picked h = sym (least_upto count picked h.0 h.1 h.2)
 
-    go : (d : Deed) → deed_offer d ≡ offer ((rules_of project script).tree t) (plain t) n → entry_by tree slots (value_at vars) version n d ≡ made_by (rules_of project script) t n (deed_offer d)
+    go : (d : Deed) → deed_offer d ≡ offer ((rules_of project script).tree t) (plain t) n → entry_by channel said slots (value_at vars) version n d ≡ made_by (rules_of project script) t n (deed_offer d)
     go deeds.Starts f = ap (Dispatch n) (sym (a.version_is (sym f)))
     go (deeds.Cuts k) f =
-        ap (λ (c : ℕ). cut n k (slice_get (path_in (slot_at slots c)) k)) (a.tells.channels n)
+        ap (λ (c : ℕ). cut n k (slice_get (path_in (slot_at slots c)) k)) a.channel_is
         ∙ ap (λ (blocks : List PathBlock). cut n k (slice_get blocks k)) (path_is (rules_of project script) t slots n k a.kept (a.counted k (sym f)))
     go deeds.Assigns f =
-        ap (Assign n) (value_is (entity_at project) (value_at vars) n (said_in tree n) a.said (done deeds.Assigns f) ∙ ap (λ (g : ℕ → ℤ). value_by project g n) values)
+        ap (Assign n) (value_is (entity_at project) (value_at vars) n said a.said_is (done deeds.Assigns f) ∙ ap (λ (g : ℕ → ℤ). value_by project g n) values)
     go deeds.Sets f = refl
     go deeds.Passes f = refl
     go deeds.Notes f = refl
@@ -134,20 +135,20 @@ entry_is project script t tree vars slots version n a deed e = go deed e
     go deeds.Tests f = ap (Test n) (tested (done deeds.Tests f))
 
 -- what is made of the node, by the rules
-pub made_is : (project : List Entity) (script : List ScriptEdit) (t : List Entry) (tree : TreeValue) (vars : List (ℕ × ℤ)) (slots : List (Option OpenStep)) (version : ℕ) (n : ℕ) → Asked project script t tree vars slots version n
-    → (deed : Deed) → deed_offer deed ≡ offer (tree_in tree) (plain t) n → entry_by tree slots (value_at vars) version n deed ≡ made (rules_of project script) t n
-made_is project script t tree vars slots version n a deed e =
+pub made_is : (project : List Entity) (script : List ScriptEdit) (t : List Entry) (tree : TreeValue) (channel : ℕ) (said : Option Said) (vars : List (ℕ × ℤ)) (slots : List (Option OpenStep)) (version : ℕ) (n : ℕ) → Asked project script t tree channel said vars slots version n
+    → (deed : Deed) → deed_offer deed ≡ offer (tree_in tree) (plain t) n → entry_by channel said slots (value_at vars) version n deed ≡ made (rules_of project script) t n
+made_is project script t tree channel said vars slots version n a deed e =
     let f : deed_offer deed ≡ offer ((rules_of project script).tree t) (plain t) n = e ∙ ap (λ (x : Exec). offer x (plain t) n) a.tells.held in
-    entry_is project script t tree vars slots version n a deed f
+    entry_is project script t tree channel said vars slots version n a deed f
     ∙ ap (made_by (rules_of project script) t n) f
 
 -- ---- definitions and picks
 
 -- only a step that starts makes a dispatch, and by its own definition
-pub defined_is : (store : List Entity) (tree : TreeValue) (slots : List (Option OpenStep)) (vars : ℕ → ℤ) (version n : ℕ) (deed : Deed)
+pub defined_is : (store : List Entity) (channel : ℕ) (said : Option Said) (slots : List (Option OpenStep)) (vars : ℕ → ℤ) (version n : ℕ) (deed : Deed)
     → (deed ≡ deeds.Starts → has_def store n ≡ true)
-    → (m v : ℕ) → entry_by tree slots vars version n deed ≡ Dispatch m v → IsSomeAnd (def_by store n deed) (λ d. def_of (entity_at store) m ≡ Ok d)
-defined_is store tree slots vars version n deed h m v e = go deed h e
+    → (m v : ℕ) → entry_by channel said slots vars version n deed ≡ Dispatch m v → IsSomeAnd (def_by store n deed) (λ d. def_of (entity_at store) m ≡ Ok d)
+defined_is store channel said slots vars version n deed h m v e = go deed h e
   where
     cut_no : (k : ℕ) (o : Option PathBlock) → cut n k o ≡ Dispatch m v → ⊥
     cut_no k None f = cc
@@ -157,7 +158,7 @@ defined_is store tree slots vars version n deed h m v e = go deed h e
     own (Ok def) f = refl
     own (Err fault) f = absurd (no_way f)
 
-    go : (d : Deed) → (d ≡ deeds.Starts → has_def store n ≡ true) → entry_by tree slots vars version n d ≡ Dispatch m v
+    go : (d : Deed) → (d ≡ deeds.Starts → has_def store n ≡ true) → entry_by channel said slots vars version n d ≡ Dispatch m v
         → IsSomeAnd (def_by store n d) (λ def. def_of (entity_at store) m ≡ Ok def)
     go deeds.Starts g f = let s : n ≡ m = cc in subst (λ (i : ℕ). IsSomeAnd (result_ok (def_of (entity_at store) n)) (λ def. def_of (entity_at store) i ≡ Ok def)) s (own (def_of (entity_at store) n) (g refl))
     go (deeds.Cuts k) g f = absurd (cut_no k _ f)
@@ -169,15 +170,15 @@ defined_is store tree slots vars version n deed h m v e = go deed h e
     go deeds.Tests g f = absurd (cc)
 
 -- only a node that picks makes a pick, of the first index that isn't picked
-pub in_order_is : (tree : TreeValue) (t : List Entry) (slots : List (Option OpenStep)) (vars : ℕ → ℤ) (version : ℕ) (e : Exec) (n : ℕ) (deed : Deed) → deed_offer deed ≡ offer e t n
-    → (m k : ℕ) → entry_by tree slots vars version n deed ≡ Pick m k → (count : ℕ) × (offer e t m ≡ Picks count (upto k))
-in_order_is tree t slots vars version e n deed o m k f = go deed o f
+pub in_order_is : (channel : ℕ) (said : Option Said) (t : List Entry) (slots : List (Option OpenStep)) (vars : ℕ → ℤ) (version : ℕ) (e : Exec) (n : ℕ) (deed : Deed) → deed_offer deed ≡ offer e t n
+    → (m k : ℕ) → entry_by channel said slots vars version n deed ≡ Pick m k → (count : ℕ) × (offer e t m ≡ Picks count (upto k))
+in_order_is channel said t slots vars version e n deed o m k f = go deed o f
   where
     cut_no : (j : ℕ) (b : Option PathBlock) → cut n j b ≡ Pick m k → ⊥
     cut_no j None g = cc
     cut_no j (Some b) g = cc
 
-    go : (d : Deed) → deed_offer d ≡ offer e t n → entry_by tree slots vars version n d ≡ Pick m k → (count : ℕ) × (offer e t m ≡ Picks count (upto k))
+    go : (d : Deed) → deed_offer d ≡ offer e t n → entry_by channel said slots vars version n d ≡ Pick m k → (count : ℕ) × (offer e t m ≡ Picks count (upto k))
     go deeds.Starts p g = absurd (cc)
     go (deeds.Cuts j) p g = absurd (cut_no j _ g)
     go deeds.Assigns p g = absurd (cc)

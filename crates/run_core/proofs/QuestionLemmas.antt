@@ -6,7 +6,7 @@ use Rattle.std.proofs.lemmas.Bool.Decides.{nat_tests}
 use Rattle.entity_types.specs.declared.entity.Entity.{Entity}
 use Rattle.entity_types.specs.declared.edit.Edit.{Edit as ScriptEdit}
 use Rattle.project_store.specs.Entities.{entity_at}
-use Rattle.exec_tree.specs.Exec.{Exec, nodes, has, works}
+use Rattle.exec_tree.specs.Exec.{nodes, has, works}
 use Rattle.exec_tree.specs.declared.role.Role.TheVariants.{Free}
 use Rattle.exec_tree.specs.Role.{role_of}
 use Rattle.exec_tree.specs.TreeOf.{tree_of}
@@ -16,11 +16,10 @@ use Rattle.trace_law.specs.Next.{next}
 use Rattle.trace_law.specs.State.{is_open}
 use Rattle.run_log.specs.declared.entry.Entry.{Entry}
 use Rattle.run_law.specs.Rules.{Rules}
-use Rattle.run_law.specs.Fits.{plain, next_of, is_busy}
+use Rattle.run_law.specs.Fits.{plain, is_busy}
 use Rattle.project_law.specs.ProjectRules.{rules_of}
 use Rattle.run_core.specs.declared.open_steps.OpenStep.{OpenStep}
 use Rattle.run_core.specs.State.{slot_at, is_step_of}
-use Rattle.run_core.specs.Standings.{is_empty}
 use Rattle.run_core.specs.Kept.{IsOpenStep, AreOpen}
 
 -- ---- lists of numbers
@@ -137,18 +136,3 @@ busy_is r t slots kept c = go (slot_at slots c) refl (kept.each c)
 pub not_some : {A : Type 0} (o : Option A) → is_none o ≡ not (is_some o)
 not_some None = refl
 not_some (Some a) = refl
-
-pub none_told : {A : Type 0} (o : Option A) (b : Bool) → is_some o ≡ not b → b ≡ is_none o
-none_told None true e = refl
-none_told None false e = e
-none_told (Some a) true e = e
-none_told (Some a) false e = refl
-
--- ---- whether a run can go on
-
-pub over_is : (r : Rules) (t : List Entry) (e : Exec) → e ≡ r.tree t → is_none (find (λ (n : ℕ). true) (next e (plain t))) ≡ is_empty (next_of r t)
-over_is r t e h = go (next e (plain t)) ∙ ap (λ (x : Exec). is_empty (next x (plain t))) h
-  where
-    go : (ns : List ℕ) → is_none (find (λ (n : ℕ). true) ns) ≡ is_empty ns
-    go [] = refl
-    go (n ∷ ns) = refl

@@ -1,5 +1,5 @@
 -- The marks that are released are those that are set, and what the frames find by them is what the rules say.
-use Rattle.std.specs.Prelude.{◌≡◌, ◌<◌, ◌≤◌, max, ◌==◌, ◌||◌, ◌&&◌, not, ℕ, Bool, true, false, List, [], ◌∷◌, ◌++◌, length, find, is_some, is_none, Option, Some, None, IfSome}
+use Rattle.std.specs.Prelude.{◌≡◌, ◌<◌, ◌≤◌, max, ◌==◌, ◌||◌, ◌&&◌, not, ℕ, Bool, true, false, List, [], ◌∷◌, ◌++◌, length, find, is_some, is_none, Option, Some, None}
 use Rattle.std.specs.Option.{option_to_list}
 use Rattle.std.specs.List.{list_all}
 use Rattle.std.proofs.Common.{refl, sym, ap, subst, ◌∙◌, arith, cond}
@@ -11,10 +11,8 @@ use Rattle.exec_tree.specs.declared.role.Role.TheVariants.{Cutting, Waiting, Fre
 use Rattle.exec_tree.specs.declared.limits.TheConstants.{MAX_CHANNELS}
 use Rattle.trace_law.specs.Below.{tree_in}
 use Rattle.trace_law.specs.Next.{next}
-use Rattle.trace_law.specs.Of.{number_of}
 use Rattle.trace_law.specs.State.{is_open, marks, marked, stage}
 use Rattle.run_log.specs.declared.entry.Entry.{Entry}
-use Rattle.run_log.specs.declared.entry.Entry.TheVariants.{Dispatch, Block, End, Pick, Test, Assign, Set, Pass, Note, Edit}
 use Rattle.run_law.specs.Rules.{Rules}
 use Rattle.run_law.specs.Fits.{plain, next_of, is_busy, is_enabled, may_go_on}
 use Rattle.run_law.specs.Endings.{waits, waits_by}
@@ -53,22 +51,6 @@ released_again tree f t released x n e h s = sorted_alike tree f t released (rel
 -- a mark that is set for the first time is released
 pub released_new : (tree : TreeValue) (f : Frames) (t : List Entry) (released : List ℕ) (x : Entry) (n : ℕ) → marked x ≡ Some n → IsSorted tree f t (released ++ n ∷ []) → IsSorted tree f t (released ++ option_to_list (marked x))
 released_new tree f t released x n e s = subst (λ (o : Option ℕ). IsSorted tree f t (released ++ option_to_list o)) (sym e) s
-
-pub mark_some : (tree : TreeValue) (x : Entry) (n : ℕ) → marked x ≡ Some n → IfSome (marked x) (λ m. has (nodes (tree_in tree)) m ≡ true) → has (nodes (tree_in tree)) n ≡ true
-mark_some tree x n e h = subst (λ (o : Option ℕ). IfSome o (λ m. has (nodes (tree_in tree)) m ≡ true)) e h
-
--- the mark of an entry is that of its node
-pub mark_there : (ns : List ℕ) (x : Entry) (n : ℕ) → number_of x ≡ Some n → has ns n ≡ true → IfSome (marked x) (λ m. has ns m ≡ true)
-mark_there ns (Set m) n e h = let f : n ≡ m = cc in subst (λ (k : ℕ). has ns k ≡ true) f h
-mark_there ns (Dispatch m v) n e h = tt
-mark_there ns (Block m k b) n e h = tt
-mark_there ns (End m) n e h = tt
-mark_there ns (Pick m k) n e h = tt
-mark_there ns (Test m b) n e h = tt
-mark_there ns (Assign m y) n e h = tt
-mark_there ns (Pass m) n e h = tt
-mark_there ns (Note m) n e h = tt
-mark_there ns (Edit i w) n e h = tt
 
 -- ---- nodes that may go on, and nodes that wait
 

@@ -1,7 +1,7 @@
 -- The state of a run after one more entry.
-use Rattle.std.specs.Prelude.{◌≡◌, ◌<◌, ◌≤◌, max, ◌==◌, ◌||◌, not, ℕ, ℤ, pos, Bool, true, false, if◌then◌else◌, unwrap_or, is_some, List, [], ◌∷◌, ◌++◌, length, slice_get, Option, Some, None, IfSome, IsSome, IsSomeAnd, Ok}
+use Rattle.std.specs.Prelude.{◌≡◌, ◌==◌, ◌||◌, not, ℕ, ℤ, pos, Bool, true, false, if◌then◌else◌, unwrap_or, is_some, List, [], ◌∷◌, ◌++◌, length, slice_get, Option, Some, None, IfSome, IsSome, IsSomeAnd, Ok}
 use Rattle.std.specs.Option.{option_map_or, option_to_list}
-use Rattle.std.proofs.Common.{refl, sym, ap, subst, ◌∙◌, arith}
+use Rattle.std.proofs.Common.{refl, sym, ap, subst, ◌∙◌}
 use Rattle.path_blocks.specs.declared.block.Block.{Block as PathBlock}
 use Rattle.path_blocks.specs.declared.def.Def.{Def}
 use Rattle.path_blocks.specs.Path.{path_of}
@@ -17,7 +17,7 @@ use Rattle.exec_tree.specs.declared.node.BareNode.{BareNode}
 use Rattle.exec_tree.specs.Executable.{kind_at}
 use Rattle.exec_tree.specs.Said.{Said, said_for, target_of}
 use Rattle.exec_tree.specs.Walked.{place_from}
-use Rattle.exec_tree.specs.Built.{TreeValue, channel_in, said_in}
+use Rattle.exec_tree.specs.Built.{TreeValue, said_in}
 use Rattle.trace_law.specs.Of.{number_of, has_some}
 use Rattle.nc_base.specs.declared.verdict.Verdict.{Verdict}
 use Rattle.trace_law.specs.State.{dispatched, marked, marks, stage, is_open}
@@ -28,7 +28,6 @@ use Rattle.run_law.specs.Rules.{Rules}
 use Rattle.run_law.specs.Fits.{FitsNode, plain, is_enabled, is_busy, may_go_on}
 use Rattle.exec_tree.specs.declared.role.Role.{Role}
 use Rattle.exec_tree.specs.declared.role.Role.TheVariants.{Cutting}
-use Rattle.exec_tree.specs.declared.limits.TheConstants.{MAX_CHANNELS}
 use Rattle.run_frames.specs.declared.frames.Frames.{Frames}
 use Rattle.run_frames.specs.Standing.{IsAt}
 use Rattle.run_frames.specs.Ready.{IsSorted}
@@ -224,12 +223,6 @@ follows_is project script t x n def e fits offered done works_if role_if counted
         let s : n ≡ m = cc in
         let z = ended_cuts (offer ((rules_of project script).tree t) (plain t) n) n m (subst (IsOffered (offer ((rules_of project script).tree t) (plain t) n) n) f offered) in
         subst (λ (q : ℕ). is_open q t ≡ true) s (ap is_some (counted z.0 z.1))
-
--- a channel's number is small
-pub channel_small : (tree : TreeValue) (o : Option ℕ) (channels : List ℕ) → ((n : ℕ) → channel_in tree.nodes n < max 1 (length channels)) → length channels ≤ MAX_CHANNELS
-    → option_map_or (λ n. channel_in tree.nodes n) o 0 < MAX_CHANNELS
-channel_small tree None channels h few = omega arith
-channel_small tree (Some n) channels h few = let l = h n in omega (arith, l, few)
 
 -- ---- before the first entry
 

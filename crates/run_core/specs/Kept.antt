@@ -9,6 +9,7 @@ use Rattle.path_blocks.specs.Path.{path_of}
 use Rattle.nc_expr.specs.Vars.{value_at, value_of_variable}
 use Rattle.exec_tree.specs.Exec.{has, works}
 use Rattle.exec_tree.specs.Built.{TreeValue, IsTreeOf, main_of}
+use Rattle.exec_tree.specs.declared.node.BareNode.{BareNode}
 use Rattle.trace_law.specs.State.{is_open, marks}
 use Rattle.run_log.specs.declared.entry.Entry.{Entry}
 use Rattle.run_log.specs.declared.entry.Entry.TheVariants.{Dispatch}
@@ -23,10 +24,11 @@ use Rattle.project_law.specs.Legal.{Legal}
 use Rattle.run_core.specs.declared.open_steps.OpenStep.{OpenStep}
 use Rattle.run_core.specs.State.{mark_in, slot_at, is_step_of, variable_in}
 
--- the state of a run: its project and script, the entries so far, and how many of them there is room for
+-- the state of a run: its project, its script, the nodes of its tree, the entries so far, and how many of them there is room for
 pub record State : Type 0 where
   pub project : List Entity
   pub script : List Edit
+  pub nodes : List BareNode
   pub list : List Entry
   pub room : ℕ
 

@@ -1,16 +1,13 @@
 -- Where a run stands.
-use Rattle.std.specs.Prelude.{ℕ, Bool, true, false, ◌&&◌, is_none, nat_le, List, [], ◌∷◌, length, slice_get}
+use Rattle.std.specs.Prelude.{ℕ, Bool, true, false, ◌&&◌, is_none, nat_le, List, length, slice_get}
 use Rattle.std.specs.List.{list_all}
 use Rattle.run_log.specs.declared.entry.Entry.{Entry}
 use Rattle.run_law.specs.Rules.{Rules}
 use Rattle.run_law.specs.Fits.{judged, next_of, is_due}
 use Rattle.run_law.specs.Endings.{waits}
+use Rattle.run_frames.specs.Ready.{is_empty}
 use Rattle.run_core.specs.declared.standings.Standing.{Standing}
 use Rattle.run_core.specs.declared.standings.Standing.TheVariants.{Done, Blocked, Limit, EditDue, Ready}
-
-abbrev pub is_empty : List ℕ → Bool
-is_empty [] = true
-is_empty (n ∷ ns) = false
 
 -- the first that applies: every edit is judged and no node can go on; every edit is judged and each node that can go on waits for an
 -- unset mark; all entries are there; the next edit is due

@@ -9,11 +9,10 @@ use Rattle.path_blocks.specs.declared.def.Def.{Def}
 use Rattle.exec_tree.specs.declared.node.BareNode.{BareNode}
 use Rattle.exec_tree.specs.Said.{Said, Assigns, Branches, Repeats}
 use Rattle.nc_expr.specs.Value.{value_of, holds}
-use Rattle.exec_tree.specs.Built.{TreeValue, channel_in, said_in}
+use Rattle.exec_tree.specs.Built.{TreeValue, said_in}
 use Rattle.exec_tree.specs.Walked.{place_from}
 use Rattle.run_log.specs.declared.entry.Entry.{Entry}
 use Rattle.run_log.specs.declared.entry.Entry.TheVariants.{Dispatch, End, Assign, Set, Pass, Note, Pick, Test}
-use Rattle.trace_law.specs.Of.{number_of}
 use Rattle.run_law.specs.Replay.{cut}
 use Rattle.run_frames.specs.declared.deed.Deed.{Deed}
 use Rattle.run_frames.specs.declared.deed.Deed.TheVariants as deeds
@@ -85,22 +84,18 @@ flag_after nodes set flag place = option_map_or (is_place_of nodes place) set fa
 abbrev pub path_in : Option OpenStep → List PathBlock
 path_in slot = option_map_or (λ o. path_of o.blocks.def) slot []
 
--- the entry of node n, by what it does next and what is kept, a dispatch at this version
-abbrev pub entry_by : TreeValue → List (Option OpenStep) → (ℕ → ℤ) → ℕ → ℕ → Deed → Entry
-entry_by tree slots vars version n deeds.Starts = Dispatch n version
-entry_by tree slots vars version n (deeds.Cuts k) = cut n k (slice_get (path_in (slot_at slots (channel_in tree.nodes n))) k)
-entry_by tree slots vars version n deeds.Assigns = Assign n (value_said vars (said_in tree n))
-entry_by tree slots vars version n deeds.Sets = Set n
-entry_by tree slots vars version n deeds.Passes = Pass n
-entry_by tree slots vars version n deeds.Notes = Note n
-entry_by tree slots vars version n (deeds.Picks count picked) = Pick n picked
-entry_by tree slots vars version n deeds.Tests = Test n (answer_said vars (said_in tree n))
+-- the entry of node n, of this channel and with what it says, by what it does next and what is kept, a dispatch at this version
+abbrev pub entry_by : ℕ → Option Said → List (Option OpenStep) → (ℕ → ℤ) → ℕ → ℕ → Deed → Entry
+entry_by channel said slots vars version n deeds.Starts = Dispatch n version
+entry_by channel said slots vars version n (deeds.Cuts k) = cut n k (slice_get (path_in (slot_at slots channel)) k)
+entry_by channel said slots vars version n deeds.Assigns = Assign n (value_said vars said)
+entry_by channel said slots vars version n deeds.Sets = Set n
+entry_by channel said slots vars version n deeds.Passes = Pass n
+entry_by channel said slots vars version n deeds.Notes = Note n
+entry_by channel said slots vars version n (deeds.Picks count picked) = Pick n picked
+entry_by channel said slots vars version n deeds.Tests = Test n (answer_said vars said)
 
 -- the definition for what node n does next: of a step that starts its own in this store
 abbrev pub def_by : List Entity → ℕ → Deed → Option Def
 def_by store n deeds.Starts = result_ok (def_of (entity_at store) n)
 def_by store n _ = None
-
--- the channel of the entry's node
-abbrev pub entry_channel : TreeValue → Entry → ℕ
-entry_channel tree x = option_map_or (λ n. channel_in tree.nodes n) (number_of x) 0

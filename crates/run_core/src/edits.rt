@@ -22,7 +22,7 @@ use edit_rules::laws::accepted_edits_keep_a_project;
 use entity_types::{Edit, Script};
 use exec_tree::Tree;
 use nc_base::{NoMemory, Number, Steps, Verdict};
-use project_law::laws::{project_rules_move, rules_without_edits};
+use project_law::laws::project_rules_move;
 use project_store::Store;
 use project_versions::{StepSet, Versions};
 use run_law::laws::logs_move;

@@ -3,37 +3,52 @@
 ghost use Rattle.std.specs.Prelude.{◌≡◌, ◌<◌, ◌≤◌, ◌+◌, ◌++◌, ℕ, ◌∷◌, [], true, max, length, Some, IsSome, IfSome, IfOk, OnErr, option_map};
 ghost use Rattle.run_log.specs.declared.entry.TheConstants.{MAX_ENTRIES};
 ghost use Rattle.exec_tree.specs.Exec.{has};
-ghost use Rattle.run_law.specs.Fits.{Fits, is_plain, plain, next_of, judged};
+ghost use Rattle.run_law.specs.Fits.{judged};
 ghost use Rattle.run_law.specs.Sound.{IsSound};
-ghost use Rattle.run_law.specs.Replay.{made, ready, turn};
-ghost use Rattle.project_law.specs.Script.{store_after};
+ghost use Rattle.run_law.specs.Replay.{ready, turn};
 ghost use Rattle.project_law.specs.ProjectRules.{rules_of, store_channels, store_steps, version_after};
 ghost use Rattle.project_law.specs.Legal.{Legal};
-ghost use Rattle.run_core.specs.Kept.{IsDefined};
-ghost use Rattle.run_frames.specs.Standing.{IsNextOf};
+ghost use Rattle.std.specs.Option.{option_to_list};
 ghost use Rattle.run_core.specs.Standings.{standing_of};
-ghost use Rattle.run_core.specs.Core.{starts_next};
+ghost use Rattle.run_core.specs.Core.{starts_next, most_looks, path_use};
 ghost use Rattle.run_core.specs.declared.standings.Standing.TheVariants.{Ready, EditDue};
 ghost use Rattle.run_log.specs.declared.entry.Entry.TheVariants.{Edit};
 ghost use Rattle.run_core.specs.Edits.{reached_by};
 
 use crate::standings::{Standing, standing_by};
-use crate::state::{Made, RunState};
+use crate::state::{Action, RunState};
 use edit_rules::Project;
 use entity_types::Script;
 use nc_base::{NoMemory, Number, Steps, Verdict};
-use path_blocks::Def;
-use run_law::laws::{legal_runs, what_is_made_fits};
-use run_log::Entry;
+use run_log::{Entry, Log};
 use std::alloc::Global;
 use std::marker::Model;
 use std::sync::ledger::Ledger;
 
-/// What a channel can do: the node that goes on, and whether it is a workingstep that is dispatched by it.
+/// Which path a workingstep that is dispatched goes by.
 #[derive(Clone, Copy, Debug, PartialEq, Eq)]
-pub struct Action {
-    pub node: Number,
-    pub starts: bool,
+pub enum PathUse {
+    /// The entry is no dispatch.
+    NotADispatch,
+    /// The core makes the path itself, block by block.
+    Own,
+}
+
+/// The entry that was appended, and the path that it goes by where it is a dispatch.
+#[derive(Clone, Copy, Debug, PartialEq, Eq)]
+pub struct Acted {
+    pub entry: Entry,
+    pub path: PathUse,
+}
+
+/// The path that a dispatch goes by.
+fn path_use(entry: &Entry) -> PathUse
+    ensures { result ≡ path_use entry.now }
+{
+    match *entry {
+        Entry::Dispatch { .. } => PathUse::Own,
+        _ => PathUse::NotADispatch,
+    }
 }
 
 /// A core with its own project, script and limit. Contracts see these, its log and its actors.
@@ -95,11 +110,10 @@ impl FreeCore {
         ensures node { option_map (λ it. it.node) result ≡ ready (rules_of self.now.project self.now.script) self.now.log channel }
         ensures starts { IfSome result (λ it. it.starts ≡ starts_next (rules_of self.now.project self.now.script) self.now.log it.node) }
     {
-        let Some(node) = self.state.ready(channel) else {
-            return None;
-        };
-        let starts = self.state.starts(node);
-        Some(Action { node, starts })
+        match self.state.ready(channel) {
+            Some(place) => Some(self.state.action(place)),
+            None => None,
+        }
     }
 
     /// How many channels the project has, at least one.
@@ -118,46 +132,36 @@ impl FreeCore {
         self.state.legal();
     }
 
-    /// What a node where the run can go on makes next.
-    fn made(&self, n: Number) -> Made
-        requires { has (next_of (rules_of self.now.project self.now.script) self.now.log) n ≡ true }
-        ensures entry { result.entry ≡ made (rules_of self.now.project self.now.script) self.now.log n }
-        ensures defined { IsDefined (store_after self.now.script self.now.project self.now.log) result.entry result.def }
-        ensures in_order { IsNextOf ((rules_of self.now.project self.now.script).tree self.now.log) (plain self.now.log) result.entry }
-    {
-        self.state.made(n)
-    }
-
-    /// Puts an entry of a node that fits at the log's end, and its actor.
-    fn append(&mut self, who: u8, entry: Entry, def: Option<Def>)
-        requires room { length self.old.log < self.old.limit }
+    /// Appends the entry of the first enabled node of a channel, where there is one. Each look at a node counts one step.
+    pub fn go_on<L: Ledger>(&mut self, who: u8, channel: u8, steps: &mut Steps<L>) -> Option<Acted>
+        requires stands { standing_of (rules_of self.old.project self.old.script) self.old.limit self.old.log ≡ Ready }
         requires who { who < 16 }
-        requires node { is_plain entry ≡ true }
-        requires fits { Fits (rules_of self.old.project self.old.script) self.old.log entry }
-        requires defined { IsDefined (store_after self.old.script self.old.project self.old.log) entry def }
-        requires in_order { IsNextOf ((rules_of self.old.project self.old.script).tree self.old.log) (plain self.old.log) entry }
-        ensures { self.new ≡ record self.old { log = self.old.log ++ entry ∷ []; actors = self.old.actors ++ who ∷ [] } }
+        ensures turn { option_map (λ it. it.entry) result ≡ turn (rules_of self.old.project self.old.script) self.old.limit self.old.log channel }
+        ensures path { IfSome result (λ it. it.path ≡ path_use it.entry) }
+        ensures log { self.new ≡ record self.old { log = self.old.log ++ option_to_list (option_map (λ it. it.entry) result); actors = self.old.actors ++ option_to_list (option_map (λ it. who) result) } }
+        ensures looks { IfSome result (λ it. steps.new ≤ steps.old + most_looks (rules_of self.old.project self.old.script) self.old.log it.entry) }
     {
-        self.state.follow(entry, def);
+        let Some(entry) = self.state.go_on(channel, steps) else {
+            return None;
+        };
         self.actors.push_reserved(who);
+        Some(Acted {
+            entry,
+            path: path_use(&entry),
+        })
     }
 
-    /// Appends the entry of the first enabled node of a channel.
-    pub fn act(&mut self, who: u8, channel: u8) -> Entry
+    /// Appends the entry of the first enabled node of a channel. Each look at a node counts one step.
+    pub fn act<L: Ledger>(&mut self, who: u8, channel: u8, steps: &mut Steps<L>) -> Acted
         requires stands { standing_of (rules_of self.old.project self.old.script) self.old.limit self.old.log ≡ Ready }
         requires one { IsSome (ready (rules_of self.old.project self.old.script) self.old.log channel) }
         requires who { who < 16 }
-        ensures turn { turn (rules_of self.old.project self.old.script) self.old.limit self.old.log channel ≡ Some result }
-        ensures log { self.new ≡ record self.old { log = self.old.log ++ result ∷ []; actors = self.old.actors ++ who ∷ [] } }
+        ensures turn { turn (rules_of self.old.project self.old.script) self.old.limit self.old.log channel ≡ Some result.entry }
+        ensures path { result.path ≡ path_use result.entry }
+        ensures log { self.new ≡ record self.old { log = self.old.log ++ result.entry ∷ []; actors = self.old.actors ++ who ∷ [] } }
+        ensures looks { steps.new ≤ steps.old + most_looks (rules_of self.old.project self.old.script) self.old.log result.entry }
     {
-        let n = self.ready(channel).unwrap().node;
-        self.legal();
-        legal_runs();
-        what_is_made_fits();
-        let it = self.made(n);
-        let entry = it.entry;
-        self.append(who, entry, it.def);
-        entry
+        self.go_on(who, channel, steps).unwrap()
     }
 
     /// Appends the verdict on the next edit, which is due, and puts the edit where it is accepted.
@@ -193,6 +197,13 @@ impl FreeCore {
         ensures { result.now ≡ self.now.log }
     {
         self.state.log()
+    }
+
+    /// The log, without a copy.
+    pub fn into_log(self) -> Log
+        ensures { result ≡ self.log }
+    {
+        self.state.into_log()
     }
 
     /// The actor of each entry.

@@ -10,14 +10,14 @@ mod marks;
 mod named;
 mod open_steps;
 mod planning;
-mod questions;
 mod replaying;
 mod standings;
 mod state;
 mod variables;
 
-pub use free::Action;
+pub use free::{Acted, PathUse};
 pub use named::{RunCore, RunName};
 pub use planning::plan_of;
 pub use replaying::replay;
 pub use standings::Standing;
+pub use state::Action;

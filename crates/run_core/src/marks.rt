@@ -1,8 +1,9 @@
 //! Which marks are set.
 
-ghost use Rattle.std.specs.Prelude.{◌≡◌, ◌==◌, ◌<◌, ◌||◌, ℕ, false, length, IfOk};
+ghost use Rattle.std.specs.Prelude.{◌≡◌, ◌==◌, ◌<◌, ◌||◌, ℕ, Some, IfSome, false, length, IfOk};
 ghost use Rattle.trace_law.specs.State.{marked};
-ghost use Rattle.run_core.specs.State.{flag_at, flag_after, mark_in};
+ghost use Rattle.exec_tree.specs.Walked.{place_from};
+ghost use Rattle.run_core.specs.State.{flag_at, flag_after};
 
 use exec_tree::Tree;
 use exec_tree::laws::places_are_found;
@@ -56,16 +57,6 @@ impl Marks {
     }
 }
 
-/// Whether the mark of a node is set.
-pub fn is_marked(tree: &Tree, marks: &Marks, n: Number) -> bool
-    ensures { result ≡ mark_in tree.now.nodes marks.now n }
-{
-    match tree.place_of(n) {
-        Some(place) => marks.is_set(place),
-        None => false,
-    }
-}
-
 /// The mark that an entry sets.
 pub fn mark_of(entry: &Entry) -> Option<Number>
     ensures { result ≡ marked entry.now }
@@ -76,16 +67,15 @@ pub fn mark_of(entry: &Entry) -> Option<Number>
     }
 }
 
-/// Goes on with an entry of the tree.
-pub fn follow(marks: &mut Marks, tree: &Tree, entry: &Entry)
-    requires { length marks.old ≡ length tree.now.nodes }
+/// Goes on with an entry of the node at a place.
+pub fn follow(marks: &mut Marks, tree: &Tree, place: u32, entry: &Entry)
+    requires long { length marks.old ≡ length tree.now.nodes }
+    requires place { IfSome (marked entry.now) (λ n. place_from 0 tree.now.nodes n ≡ Some place) }
     ensures count { length marks.new ≡ length marks.old }
     ensures flags { (q : ℕ) → flag_at marks.new q ≡ flag_after tree.now.nodes (marked entry.now) (flag_at marks.old q) q }
 {
     places_are_found();
-    if let Some(n) = mark_of(entry) {
-        if let Some(place) = tree.place_of(n) {
-            marks.set(place);
-        }
+    if mark_of(entry).is_some() {
+        marks.set(place);
     }
 }

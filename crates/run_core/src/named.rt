@@ -10,16 +10,18 @@ ghost use Rattle.run_law.specs.Replay.{ready, turn};
 ghost use Rattle.project_law.specs.ProjectRules.{rules_of, store_channels, store_steps, version_after};
 ghost use Rattle.project_law.specs.Legal.{Legal};
 ghost use Rattle.run_core.specs.Standings.{standing_of};
-ghost use Rattle.run_core.specs.Core.{starts_next};
+ghost use Rattle.run_core.specs.Core.{starts_next, most_looks, path_use};
+ghost use Rattle.std.specs.Option.{option_to_list};
 ghost use Rattle.run_core.specs.declared.standings.Standing.TheVariants.{Ready, EditDue};
 ghost use Rattle.run_core.specs.Edits.{reached_by};
 
-use crate::free::{Action, FreeCore};
+use crate::free::{Acted, FreeCore};
 use crate::standings::Standing;
+use crate::state::Action;
 use edit_rules::Project;
 use entity_types::Script;
 use nc_base::{NoMemory, Number, Steps, Verdict};
-use run_log::Entry;
+use run_log::{Entry, Log};
 use std::alloc::Global;
 use std::marker::{Brand, Model, PhantomData};
 use std::sync::ledger::Ledger;
@@ -107,15 +109,30 @@ impl<N: RunName> RunCore<N> {
     }
 
     /// Appends the entry of the first enabled node of a channel, which a turn of that channel makes, for the actor `who`, below 16. It takes no
-    /// memory.
-    pub fn act(&mut self, who: u8, channel: u8) -> Entry
+    /// memory. It counts a step for each look at a node of the tree: at most four times the sum of the tree's greatest nesting, one, the
+    /// number of nodes where the run could go on, and the number of nodes to which it comes by the entry.
+    pub fn act<L: Ledger>(&mut self, who: u8, channel: u8, steps: &mut Steps<L>) -> Acted
         requires stands { standing_of (rules_of N.project N.script) N.limit self.old.0 ≡ Ready }
         requires one { IsSome (ready (rules_of N.project N.script) self.old.0 channel) }
         requires who { who < 16 }
-        ensures turn { turn (rules_of N.project N.script) N.limit self.old.0 channel ≡ Some result }
-        ensures log { self.new ≡ (self.old.0 ++ result ∷ [], self.old.1 ++ who ∷ []) }
+        ensures turn { turn (rules_of N.project N.script) N.limit self.old.0 channel ≡ Some result.entry }
+        ensures path { result.path ≡ path_use result.entry }
+        ensures log { self.new ≡ (self.old.0 ++ result.entry ∷ [], self.old.1 ++ who ∷ []) }
+        ensures looks { steps.new ≤ steps.old + most_looks (rules_of N.project N.script) self.old.0 result.entry }
     {
-        self.core.act(who, channel)
+        self.core.act(who, channel, steps)
+    }
+
+    /// The same where a node of the channel is enabled, and nothing where none is: `ready` and `act` at once.
+    pub fn go_on<L: Ledger>(&mut self, who: u8, channel: u8, steps: &mut Steps<L>) -> Option<Acted>
+        requires stands { standing_of (rules_of N.project N.script) N.limit self.old.0 ≡ Ready }
+        requires who { who < 16 }
+        ensures turn { option_map (λ it. it.entry) result ≡ turn (rules_of N.project N.script) N.limit self.old.0 channel }
+        ensures path { IfSome result (λ it. it.path ≡ path_use it.entry) }
+        ensures log { self.new ≡ (self.old.0 ++ option_to_list (option_map (λ it. it.entry) result), self.old.1 ++ option_to_list (option_map (λ it. who) result)) }
+        ensures looks { IfSome result (λ it. steps.new ≤ steps.old + most_looks (rules_of N.project N.script) self.old.0 it.entry) }
+    {
+        self.core.go_on(who, channel, steps)
     }
 
     /// Appends the verdict on the next edit, which is due, for the actor `who`, below 16, and puts the edit where it is accepted. It counts a step
@@ -168,6 +185,13 @@ impl<N: RunName> RunCore<N> {
         ensures { result.now ≡ self.now.0 }
     {
         self.core.log()
+    }
+
+    /// The log, without a copy.
+    pub fn into_log(self) -> Log
+        ensures { result ≡ self.0 }
+    {
+        self.core.into_log()
     }
 
     /// The actor of each entry of the log.

@@ -1,9 +1,13 @@
 //! The state of a run: where it stands, what is set and open, and what the variables are.
 
-ghost use Rattle.std.specs.Prelude.{◌≡◌, ◌<◌, ◌≤◌, ◌^◌, ◌++◌, ◌∷◌, [], ℕ, List, IfSome, true, max, ◌+◌, length, IfOk, OnOk, OnErr, slice_get, is_none};
+ghost use Rattle.std.specs.Prelude.{◌≡◌, ◌<◌, ◌≤◌, ◌^◌, ◌++◌, ◌∷◌, [], ℕ, List, Some, IfSome, true, false, max, ◌+◌, ◌*◌, length, IfOk, OnOk, OnErr, slice_get, is_none, option_map};
 ghost use Rattle.std.specs.List.{list_all};
 ghost use Rattle.nc_expr.specs.Vars.{value_at};
-ghost use Rattle.exec_tree.specs.Exec.{has, nodes};
+ghost use Rattle.exec_tree.specs.Exec.{has};
+ghost use Rattle.exec_tree.specs.Said.{bare_of, said_by};
+ghost use Rattle.exec_tree.specs.Walked.{place_from};
+ghost use Rattle.tree_table.specs.Placed.{number_at};
+ghost use Rattle.frame_law.specs.ComeTo.{nesting, new_in};
 ghost use Rattle.exec_tree.specs.declared.limits.TheConstants.{MAX_CHANNELS};
 ghost use Rattle.trace_law.specs.Of.{number_of};
 ghost use Rattle.run_law.specs.Fits.{Fits, is_plain, plain, next_of, judged, is_due};
@@ -17,41 +21,40 @@ ghost use Rattle.run_frames.specs.declared.deed.Deed.TheVariants.{Starts, Picks}
 ghost use Rattle.project_law.specs.Script.{store_after};
 ghost use Rattle.project_law.specs.ProjectRules.{rules_of, store_channels, store_steps, version_after};
 ghost use Rattle.project_law.specs.Legal.{Legal};
-ghost use Rattle.run_core.specs.State.{mark_in, slot_at, path_in, entry_by, def_by, entry_channel};
+ghost use Rattle.run_core.specs.State.{mark_in, slot_at, path_in, entry_by, def_by};
 ghost use Rattle.run_core.specs.Kept.{IsDefined};
 ghost use Rattle.run_core.specs.Edits.{HasVersion, version_now, reached_by};
-ghost use Rattle.run_frames.specs.Standing.{IsAt, IsNextOf};
+ghost use Rattle.run_frames.specs.Standing.{IsAt, IsNextOf, IsPlace};
 ghost use Rattle.run_frames.specs.Ready.{IsSorted};
-ghost use Rattle.trace_law.specs.Below.{tree_in};
 ghost use Rattle.trace_law.specs.State.{marked};
 ghost use Rattle.std.specs.Option.{option_to_list};
 ghost use Rattle.run_log.specs.declared.entry.Entry.{Entry};
 ghost use Rattle.run_log.specs.declared.entry.Entry.TheVariants.{Pick, Edit};
-ghost use Rattle.run_core.specs.Standings.{is_empty};
-ghost use Rattle.run_core.specs.Core.{does_start, starts_next};
+ghost use Rattle.run_frames.specs.Ready.{is_empty};
+ghost use Rattle.run_core.specs.Core.{does_start, starts_next, most_looks};
 
 use crate::definition::definition_in;
 use crate::edits::Edits;
-use crate::marks::{self, Marks, is_marked, mark_of};
+use crate::marks::{self, Marks, mark_of};
 use crate::open_steps::OpenSteps;
-use crate::questions::Any;
 use crate::variables::{self, answer_of, opening_vars, value_of};
 use edit_rules::Project;
 use edit_rules::laws::tree_steps_are_workingsteps;
 use entity_types::Script;
 use exec_tree::laws::{places_are_found, trees_are_sound, trees_tell};
-use exec_tree::{MAX_CHANNELS, Tree};
+use exec_tree::{MAX_CHANNELS, Node, Tree};
+use frame_law::looks::trees_are_numbered;
 use nc_base::{NoMemory, Number, Steps, Verdict};
 use nc_expr::Vars;
 use path_blocks::Def;
 use project_law::laws::{project_rules_are_sound, project_rules_move, stuck_project_waits};
 use project_store::Store;
 use run_frames::{Deed, Frames};
-use run_law::laws::{legal_runs, logs_move};
-use run_log::Entry;
+use run_law::laws::{legal_runs, logs_move, what_is_made_fits};
+use run_log::{Entry, Log};
 use std::alloc::Global;
-use std::marker::Model;
-use std::sync::ledger::Ledger;
+use std::marker::{Brand, Model};
+use std::sync::ledger::{Blank, Ledger};
 use trace_law::laws::{
     blocks_are_counted, next_stands_in_preorder, what_can_go_on_is_open, what_is_offered_follows,
 };
@@ -63,7 +66,15 @@ pub struct Made {
     pub def: Option<Def>,
 }
 
-/// The state of a run. Contracts see the project's entities, its script, the entries so far, and how many of them there is room for.
+/// What a channel can do: the node that goes on, and whether it is a workingstep that is dispatched by it.
+#[derive(Clone, Copy, Debug, PartialEq, Eq)]
+pub struct Action {
+    pub node: Number,
+    pub starts: bool,
+}
+
+/// The state of a run. Contracts see the project's entities, its script, the nodes of its tree, the entries so far, and how many of them there is room
+/// for.
 #[derive(Drop)]
 pub struct RunState {
     store: Store,
@@ -83,7 +94,7 @@ impl Model for RunState {
 
     ghost Value = { State };
 
-    ghost view = { λ a. record { project = a.store; script = a.edits.script; list = a.log.items; room = vec_capacity a.log } };
+    ghost view = { λ a. record { project = a.store; script = a.edits.script; nodes = a.tree.nodes; list = a.log.items; room = vec_capacity a.log } };
 
     ghost invariant = { λ a. IsState a.store a.edits.script a.tree a.frames a.log.items a.marks a.vars a.steps × AreKept a.store a.log.items a.edits };
 }
@@ -101,9 +112,9 @@ fn next_cut(steps: &OpenSteps, channel: u8, n: Number, k: usize) -> Entry
     }
 }
 
-/// The entry of a node that does this next, a dispatch at this version.
+/// The entry of a node of this number that does this next, a dispatch at this version.
 fn entry_by(
-    tree: &Tree,
+    node: &Node,
     steps: &OpenSteps,
     vars: &Vars,
     version: u32,
@@ -111,14 +122,14 @@ fn entry_by(
     deed: Deed,
 ) -> Entry
     requires { (count picked : ℕ) → deed ≡ Picks count picked → picked < count }
-    ensures { result ≡ entry_by tree.now steps.now (value_at vars.now) version n deed }
+    ensures { result ≡ entry_by node.now.channel (Some (said_by node.now)) steps.now (value_at vars.now) version n deed }
 {
     match deed {
         Deed::Starts => Entry::Dispatch { n, v: version },
-        Deed::Cuts(k) => next_cut(steps, tree.channel(n), n, k),
+        Deed::Cuts(k) => next_cut(steps, node.channel, n, k),
         Deed::Assigns => Entry::Assign {
             n,
-            x: value_of(tree, vars, n),
+            x: value_of(node, vars),
         },
         Deed::Sets => Entry::Set { n },
         Deed::Passes => Entry::Pass { n },
@@ -126,7 +137,7 @@ fn entry_by(
         Deed::Picks { count: _, picked } => pick(n, picked),
         Deed::Tests => Entry::Test {
             n,
-            yes: answer_of(tree, vars, n),
+            yes: answer_of(node, vars),
         },
     }
 }
@@ -171,47 +182,50 @@ fn is_start(deed: Deed) -> bool
     }
 }
 
-/// The number of an entry's node, none for an edit.
-fn node_of(entry: &Entry) -> Option<Number>
-    ensures { result ≡ number_of entry.now }
+/// The node at a place.
+fn node_at(tree: &Tree, place: u32) -> &Node
+    requires { place < length tree.now.nodes }
+    ensures { slice_get tree.now.nodes place ≡ Some (bare_of result.now) }
 {
-    match *entry {
-        Entry::Dispatch { n, .. } => Some(n),
-        Entry::Block { n, .. } => Some(n),
-        Entry::End { n } => Some(n),
-        Entry::Pick { n, .. } => Some(n),
-        Entry::Test { n, .. } => Some(n),
-        Entry::Assign { n, .. } => Some(n),
-        Entry::Set { n } => Some(n),
-        Entry::Pass { n } => Some(n),
-        Entry::Note { n } => Some(n),
-        Entry::Edit { .. } => None,
-    }
+    &tree.nodes()[place as usize]
 }
 
-/// The channel of an entry's node.
-fn channel_of(tree: &Tree, entry: &Entry) -> u8
-    ensures { result ≡ entry_channel tree.now entry.now }
+/// The number of the node that stands at a place, 0 where it has none.
+fn number_in(tree: &Tree, node: &Node, place: u32) -> Number
+    requires { slice_get tree.now.nodes place ≡ Some (bare_of node.now) }
+    ensures { result ≡ number_at tree.now.nodes place }
 {
-    match node_of(entry) {
-        Some(n) => tree.channel(n),
-        None => 0,
-    }
+    node.number.unwrap_or(0)
 }
 
-/// Releases the mark that an entry sets, where it wasn't set: the waits for it may go on. Each wait is looked at once in a run.
-fn release_by(frames: &mut Frames, tree: &Tree, marks: &Marks, entry: &Entry)
+/// Releases the mark that an entry of the node at a place sets, where it wasn't set: the waits for it may go on. Each wait is released once
+/// in a run.
+fn release_by(frames: &mut Frames, tree: &Tree, marks: &Marks, place: u32, entry: &Entry)
     requires at { (t : List Entry) × (released : List ℕ) × IsAt tree.now.nodes frames.old t × IsSorted tree.now frames.old t released }
-    requires mark { IfSome (marked entry.now) (λ n. has (nodes (tree_in tree.now)) n ≡ true) }
+    requires place { IfSome (marked entry.now) (λ n. place_from 0 tree.now.nodes n ≡ Some place) }
     ensures at { (t : List Entry) → IsAt tree.now.nodes frames.old t → IsAt tree.now.nodes frames.new t }
     ensures sorted { (t : List Entry) (released : List ℕ) → IsAt tree.now.nodes frames.old t → IsSorted tree.now frames.old t released → ((n : ℕ) → mark_in tree.now.nodes marks.now n ≡ has released n) → IsSorted tree.now frames.new t (released ++ option_to_list (marked entry.now)) }
 {
-    let Some(n) = mark_of(entry) else {
+    places_are_found();
+    let Some(_) = mark_of(entry) else {
         return;
     };
-    if !is_marked(tree, marks, n) {
-        frames.release(tree, n);
+    if !marks.is_set(place) {
+        frames.release(tree, place);
     }
+}
+
+/// The frames of a run that has no entry yet. Their looks are counted by a counter of their own.
+fn open_frames<L: Ledger>(alloc: Global, tree: &Tree, blank: Blank) -> Result<Frames, NoMemory>
+    requires name { blank.name ≡ L.name }
+    requires parts { blank.parts ≡ L.parts }
+    requires one { blank.parts ≡ 1 }
+    ensures at { IfOk result (λ f. IsAt tree.now.nodes f []) }
+    ensures sorted { IfOk result (λ f. IsSorted tree.now f [] []) }
+{
+    let (book, share) = blank.open::<L>();
+    let mut counter = Steps::new(book, share);
+    Frames::open(alloc, tree, &mut counter)
 }
 
 impl RunState {
@@ -235,7 +249,7 @@ impl RunState {
         tree_steps_are_workingsteps();
         let (store, tree) = project.parts();
         let edits = Edits::open(alloc, &store, tree.steps(), script)?;
-        let frames = Frames::open(alloc, &tree)?;
+        let frames = open_frames::<Brand>(alloc, &tree, Blank::new(1))?;
         let marks = Marks::new(alloc, tree.len())?;
         let vars = opening_vars(alloc, &store, &tree)?;
         let steps = OpenSteps::new(alloc)?;
@@ -260,9 +274,10 @@ impl RunState {
         let _ = &self.frames;
     }
 
-    /// The first enabled node of a channel.
-    pub fn ready(&self, channel: u8) -> Option<Number>
-        ensures { result ≡ ready (rules_of self.now.project self.now.script) self.now.list channel }
+    /// The place of the first enabled node of a channel.
+    pub fn ready(&self, channel: u8) -> Option<u32>
+        ensures node { option_map (number_at self.now.nodes) result ≡ ready (rules_of self.now.project self.now.script) self.now.list channel }
+        ensures place { IfSome result (IsPlace self.now.nodes) }
     {
         trees_tell();
         next_stands_in_preorder();
@@ -280,7 +295,7 @@ impl RunState {
     pub fn is_over(&self) -> bool
         ensures { result ≡ is_empty (next_of (rules_of self.now.project self.now.script) self.now.list) }
     {
-        self.frames.first(&self.tree, &Any).is_none()
+        self.frames.is_empty(&self.tree)
     }
 
     /// Whether each node where the run can go on waits for a mark that isn't set.
@@ -310,12 +325,19 @@ impl RunState {
         self.edits.are_due(self.log.as_slice().len(), waiting)
     }
 
-    /// Whether a node where the run can go on is dispatched next.
-    pub fn starts(&self, n: Number) -> bool
-        requires { has (next_of (rules_of self.now.project self.now.script) self.now.list) n ≡ true }
-        ensures { result ≡ starts_next (rules_of self.now.project self.now.script) self.now.list n }
+    /// What the node at a place, where the run can go on, does next: its number, and whether it is dispatched.
+    pub fn action(&self, place: u32) -> Action
+        requires place { IsPlace self.now.nodes place }
+        requires next { has (next_of (rules_of self.now.project self.now.script) self.now.list) (number_at self.now.nodes place) ≡ true }
+        ensures node { result.node ≡ number_at self.now.nodes place }
+        ensures starts { result.starts ≡ starts_next (rules_of self.now.project self.now.script) self.now.list (number_at self.now.nodes place) }
     {
-        is_start(self.frames.deed(&self.tree, n))
+        places_are_found();
+        let at = node_at(&self.tree, place);
+        Action {
+            node: number_in(&self.tree, at, place),
+            starts: is_start(self.frames.deed(&self.tree, at, place)),
+        }
     }
 
     /// How many channels the tree has, at least one.
@@ -340,13 +362,16 @@ impl RunState {
         self.log.as_slice()
     }
 
-    /// What a node where the run can go on makes next.
-    pub fn made(&self, n: Number) -> Made
-        requires { has (next_of (rules_of self.now.project self.now.script) self.now.list) n ≡ true }
-        ensures entry { result.entry ≡ made (rules_of self.now.project self.now.script) self.now.list n }
+    /// What the node at a place, where the run can go on, makes next. The look at the node counts one step.
+    pub fn made<L: Ledger>(&self, place: u32, steps: &mut Steps<L>) -> Made
+        requires place { IsPlace self.now.nodes place }
+        requires next { has (next_of (rules_of self.now.project self.now.script) self.now.list) (number_at self.now.nodes place) ≡ true }
+        ensures entry { result.entry ≡ made (rules_of self.now.project self.now.script) self.now.list (number_at self.now.nodes place) }
         ensures defined { IsDefined (store_after self.now.script self.now.project self.now.list) result.entry result.def }
         ensures in_order { IsNextOf ((rules_of self.now.project self.now.script).tree self.now.list) (plain self.now.list) result.entry }
+        ensures looks { steps.new ≡ steps.old + 1 }
     {
+        places_are_found();
         trees_tell();
         trees_are_sound();
         next_stands_in_preorder();
@@ -355,22 +380,33 @@ impl RunState {
         project_rules_are_sound();
         legal_runs();
         logs_move();
-        let deed = self.frames.deed(&self.tree, n);
+        let node = self.tree.node(place, steps);
+        let n = number_in(&self.tree, node, place);
+        let deed = self.frames.deed(&self.tree, node, place);
         let def = def_by(self.edits.store(&self.store), n, deed);
         let version = version_by(&self.edits, n, deed);
-        let entry = entry_by(&self.tree, &self.steps, &self.vars, version, n, deed);
+        let entry = entry_by(node, &self.steps, &self.vars, version, n, deed);
         Made { entry, def }
     }
 
-    /// Goes on with an entry of a node that fits.
-    pub fn follow(&mut self, entry: Entry, def: Option<Def>)
+    /// Goes on with an entry that fits, of the node at a place. Each look at a node counts one step.
+    pub fn follow<L: Ledger>(
+        &mut self,
+        place: u32,
+        entry: Entry,
+        def: Option<Def>,
+        steps: &mut Steps<L>,
+    )
         requires room { length self.old.list < self.old.room }
+        requires place { IfSome (number_of entry) (λ n. place_from 0 self.old.nodes n ≡ Some place) }
         requires node { is_plain entry ≡ true }
         requires fits { Fits (rules_of self.old.project self.old.script) self.old.list entry }
         requires defined { IsDefined (store_after self.old.script self.old.project self.old.list) entry def }
         requires in_order { IsNextOf ((rules_of self.old.project self.old.script).tree self.old.list) (plain self.old.list) entry }
-        ensures { self.new ≡ record self.old { list = self.old.list ++ entry ∷ [] } }
+        ensures list { self.new ≡ record self.old { list = self.old.list ++ entry ∷ [] } }
+        ensures looks { steps.new ≤ steps.old + (4 + nesting ((rules_of self.old.project self.old.script).tree self.old.list) + 2 * length (new_in ((rules_of self.old.project self.old.script).tree self.old.list) (plain self.old.list) entry)) }
     {
+        trees_are_numbered();
         trees_tell();
         trees_are_sound();
         next_stands_in_preorder();
@@ -382,14 +418,43 @@ impl RunState {
         what_is_offered_follows();
         places_are_found();
         self.tree.channel_table();
-        let channel = channel_of(&self.tree, &entry);
-        self.steps.follow(channel, &entry, def);
+        let node = self.tree.node(place, steps);
+        self.steps.follow(node.channel, &entry, def);
         self.edits.follow(&entry);
-        release_by(&mut self.frames, &self.tree, &self.marks, &entry);
-        marks::follow(&mut self.marks, &self.tree, &entry);
-        variables::follow(&mut self.vars, &self.tree, &entry);
-        self.frames.advance(&self.tree, &entry);
+        release_by(&mut self.frames, &self.tree, &self.marks, place, &entry);
+        marks::follow(&mut self.marks, &self.tree, place, &entry);
+        variables::follow(&mut self.vars, &self.tree, node, &entry);
+        self.frames.advance(&self.tree, place, &entry, steps);
         self.log.push_reserved(entry);
+    }
+
+    /// Appends the entry of the first enabled node of a channel where no edit is due; none where no node is. Each look at a node counts one
+    /// step.
+    pub fn go_on<L: Ledger>(&mut self, channel: u8, steps: &mut Steps<L>) -> Option<Entry>
+        requires room { length self.old.list < self.old.room }
+        requires due { is_due (rules_of self.old.project self.old.script) self.old.list ≡ false }
+        ensures entry { result ≡ option_map (made (rules_of self.old.project self.old.script) self.old.list) (ready (rules_of self.old.project self.old.script) self.old.list channel) }
+        ensures list { self.new ≡ record self.old { list = self.old.list ++ option_to_list result } }
+        ensures looks { IfSome result (λ x. steps.new ≤ steps.old + most_looks (rules_of self.old.project self.old.script) self.old.list x) }
+    {
+        let Some(place) = self.ready(channel) else {
+            return None;
+        };
+        self.legal();
+        legal_runs();
+        what_is_made_fits();
+        let it = self.made(place, steps);
+        let entry = it.entry;
+        self.follow(place, entry, it.def, steps);
+        Some(entry)
+    }
+
+    /// The entries, which are fewer than 2^32.
+    pub fn into_log(self) -> Log
+        requires { length self.list < 2 ^ 32 }
+        ensures { result ≡ self.list }
+    {
+        Log::of(self.log)
     }
 
     /// The verdict on the next edit, which is due. It changes nothing.

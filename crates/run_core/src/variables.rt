@@ -1,9 +1,10 @@
 //! The variables of a run: what they open with, what nodes make of them.
 
-ghost use Rattle.std.specs.Prelude.{◌≡◌, [], ℕ, length, map, Some, IsSome, OnOk, IfOk};
+ghost use Rattle.std.specs.Prelude.{◌≡◌, [], ℕ, length, map, Some, IsSome, IfSome, OnOk, IfOk};
 ghost use Rattle.nc_expr.specs.Vars.{value_at, value_of_variable};
 ghost use Rattle.exec_tree.specs.Said.{said_by};
 ghost use Rattle.exec_tree.specs.Built.{said_in};
+ghost use Rattle.trace_law.specs.Of.{number_of};
 ghost use Rattle.project_law.specs.Variables.{opening_of, opening_vars};
 ghost use Rattle.run_core.specs.State.{variable_by, variable_in, value_said, answer_said, var_after};
 ghost use Rattle.run_core.specs.Opening.{AreOpening, AreAssigned, opened, opening_number};
@@ -110,26 +111,10 @@ pub fn opening_vars(alloc: Global, store: &Store, tree: &Tree) -> Result<Vars, N
     Vars::new(alloc, pairs.as_slice())
 }
 
-/// The variable that a node assigns.
-fn variable_of(tree: &Tree, n: Number) -> Option<Number>
-    ensures { result ≡ variable_in tree.now n }
-{
-    let Some(node) = tree.node_of(n) else {
-        return None;
-    };
-    match &node.kind {
-        NodeKind::Assign(variable, _) => Some(*variable),
-        _ => None,
-    }
-}
-
 /// The value that a node assigns, 0 where it assigns none.
-pub fn value_of(tree: &Tree, vars: &Vars, n: Number) -> i64
-    ensures { result ≡ value_said (value_at vars.now) (said_in tree.now n) }
+pub fn value_of(node: &Node, vars: &Vars) -> i64
+    ensures { result ≡ value_said (value_at vars.now) (Some (said_by node.now)) }
 {
-    let Some(node) = tree.node_of(n) else {
-        return 0;
-    };
     match &node.kind {
         NodeKind::Assign(_, term) => value(term, vars),
         _ => 0,
@@ -137,12 +122,9 @@ pub fn value_of(tree: &Tree, vars: &Vars, n: Number) -> i64
 }
 
 /// The answer of a node's condition, no where it has none.
-pub fn answer_of(tree: &Tree, vars: &Vars, n: Number) -> bool
-    ensures { result ≡ answer_said (value_at vars.now) (said_in tree.now n) }
+pub fn answer_of(node: &Node, vars: &Vars) -> bool
+    ensures { result ≡ answer_said (value_at vars.now) (Some (said_by node.now)) }
 {
-    let Some(node) = tree.node_of(n) else {
-        return false;
-    };
     match &node.kind {
         NodeKind::If(condition) => test(condition, vars),
         NodeKind::While(condition) => test(condition, vars),
@@ -150,13 +132,14 @@ pub fn answer_of(tree: &Tree, vars: &Vars, n: Number) -> bool
     }
 }
 
-/// Goes on with an entry of the tree.
-pub fn follow(vars: &mut Vars, tree: &Tree, entry: &Entry)
-    requires { (n v : ℕ) → variable_in tree.now n ≡ Some v → IsSome (value_of_variable vars.old v) }
+/// Goes on with an entry of this node of the tree.
+pub fn follow(vars: &mut Vars, tree: &Tree, node: &Node, entry: &Entry)
+    requires known { (n v : ℕ) → variable_in tree.now n ≡ Some v → IsSome (value_of_variable vars.old v) }
+    requires said { IfSome (number_of entry.now) (λ n. said_in tree.now n ≡ Some (said_by node.now)) }
     ensures { (m : ℕ) → value_of_variable vars.new m ≡ var_after tree.now entry.now (value_of_variable vars.old m) m }
 {
-    if let Entry::Assign { n, x } = *entry {
-        if let Some(variable) = variable_of(tree, n) {
+    if let Entry::Assign { n: _, x } = *entry {
+        if let Some(variable) = variable_said(node) {
             vars.set(variable, x);
         }
     }

@@ -61,7 +61,7 @@ plan_is : (k : Kind) (n : Option ℕ) (es : List Exec) → k ≡ kind.Plan → i
 plan_is k n es h = ap (λ (j : Kind). is_workplan (of_kind j n es)) h
 
 -- opening leads to no workplan
-no_plan : (arena : List BareNode) (rows : List Row) (p : ℕ) (node : BareNode) → IsTable arena rows → IsEntrance arena rows p → slice_get arena p ≡ Some node → node.kind ≡ kind.Plan → ⊥
+pub no_plan : (arena : List BareNode) (rows : List Row) (p : ℕ) (node : BareNode) → IsTable arena rows → IsEntrance arena rows p → slice_get arena p ≡ Some node → node.kind ≡ kind.Plan → ⊥
 no_plan arena rows p node t s at h =
     let l = entrance_leads arena rows p t s in
     let none : is_workplan (executable_at arena rows p) ≡ false = ap is_workplan l.1 ∙ (lead_of (executable_at arena rows p) l.0).3 in

@@ -18,6 +18,8 @@ pub mod CloseLemmas
 pub mod WorkLemmas
 pub mod PickLemmas
 pub mod TestLemmas
+pub mod LookLemmas
 pub mod StandLemmas
+pub mod RenamedLookLemmas
 pub mod ReadyLemmas
 pub mod WaitLemmas

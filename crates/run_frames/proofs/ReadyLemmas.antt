@@ -1,5 +1,5 @@
 -- The classes of places tell which nodes may go on.
-use Rattle.std.specs.Prelude.{◌≡◌, ◌<◌, ◌≤◌, ◌+◌, ◌==◌, ◌||◌, ◌&&◌, not, nat_lt, if◌then◌else◌, ℕ, zero, suc, Bool, true, false, List, [], ◌∷◌, ◌++◌, length, map, find, is_some, slice_get, slice_set, unwrap_or, option_map, Option, Some, None}
+use Rattle.std.specs.Prelude.{◌≡◌, ◌<◌, ◌≤◌, ◌+◌, ◌==◌, ◌||◌, ◌&&◌, not, nat_lt, if◌then◌else◌, ℕ, zero, suc, Bool, true, false, List, [], ◌∷◌, ◌++◌, length, map, find, is_some, slice_get, slice_set, unwrap_or, option_map, Option, Some, None, IfSome}
 use Rattle.std.specs.Option.{option_map_or}
 use Rattle.std.specs.List.{list_all}
 use Rattle.std.proofs.Common.{refl, sym, ◌∙◌, ap, subst, arith}
@@ -25,13 +25,13 @@ use Rattle.run_log.specs.declared.entry.Entry.{Entry}
 use Rattle.run_log.specs.declared.entry.Entry.TheVariants.{Dispatch, Block, End, Pick, Test, Assign, Set, Pass, Note, Edit}
 use Rattle.tree_table.specs.Placed.{placed, number_at}
 use Rattle.run_frames.specs.declared.frames.Frames.{Frames}
-use Rattle.run_frames.specs.Standing.{IsAt}
+use Rattle.run_frames.specs.Standing.{IsAt, IsPlace}
 use Rattle.run_frames.specs.Ready.{may_by, is_ready, waits_by, class_by, class_in, class_of, class_when, classes_when, classes_after, opens, AreClasses, IsSorted}
 use Rattle.run_frames.proofs.NumberedLemmas.{number_is, numbered_down, place_is}
 use Rattle.run_frames.specs.Waits.{mark_by, mark_at, class_freed, AreLinked, AreFreed}
 use Rattle.run_frames.specs.declared.waits.Waits.{Waits}
 use Rattle.std.proofs.lemmas.Option.{slice_get_within}
-use Rattle.run_frames.proofs.StandLemmas.{tree, IsPlaceOf, AreOfTree, placed_once, next_inside, next_is, first_is}
+use Rattle.run_frames.proofs.StandLemmas.{tree, IsPlaceOf, AreOfTree, placed_once, next_inside, next_is, first_is, place_held}
 
 -- ---- what a class says
 
@@ -141,19 +141,22 @@ and_left : (a b : Bool) → (a && b) ≡ true → a ≡ true
 and_left true b h = refl
 and_left false b h = h
 
+in_set : (f : Frames) (channel : ℕ) (idle : Bool) (p : ℕ) → is_in_channel f.set channel idle p ≡ true → holds f.set.all p ≡ true
+in_set f channel idle p h = and_left (holds f.set.all p) (class_index (class_at f.set.classes p) channel idle) h
+
 pub ready_first : (t : TreeValue) (f : Frames) (u : List Entry) (released : List ℕ) (channel : ℕ) (idle : Bool) (o : Option ℕ) → AreOfTree t.nodes → IsAt t.nodes f u → IsSorted t f u released → channel < 8
     → IsFirstOf (is_in_channel f.set channel idle) o → option_map (number_at t.nodes) o ≡ find (is_ready t u released channel idle) (next (tree t.nodes) u)
 ready_first t f u released channel idle None a s o l h =
     first_is t.nodes f u (is_ready t u released channel idle) None a s (λ q i. sym (ready_at t f u released channel idle q a s o l i) ∙ h q)
 ready_first t f u released channel idle (Some p) a s o l h =
-    let there = and_left (holds f.set.all p) (class_index (class_at f.set.classes p) channel idle) h.0 in
-    first_is t.nodes f u (is_ready t u released channel idle) (Some (number_at t.nodes p)) a s (record {
-      place = p;
-      there = there;
-      is_number = refl;
-      answers = sym (ready_at t f u released channel idle p a s o l there) ∙ h.0;
-      before = λ q k i. sym (ready_at t f u released channel idle q a s o l i) ∙ h.1 q k;
-    })
+    let there = in_set f channel idle p h.0 in
+    first_is t.nodes f u (is_ready t u released channel idle) (Some p) a s
+    (there, sym (ready_at t f u released channel idle p a s o l there) ∙ h.0, λ q k i. sym (ready_at t f u released channel idle q a s o l i) ∙ h.1 q k)
+
+-- and its place is found by its number
+pub ready_place : (t : TreeValue) (f : Frames) (u : List Entry) (channel : ℕ) (idle : Bool) (o : Option ℕ) → AreOfTree t.nodes → IsAt t.nodes f u → IsFirstOf (is_in_channel f.set channel idle) o → IfSome o (IsPlace t.nodes)
+ready_place t f u channel idle None a s h = tt
+ready_place t f u channel idle (Some p) a s h = place_held t.nodes f u p a s (in_set f channel idle p h.0)
 
 -- ---- all wait
 
@@ -353,6 +356,13 @@ classes_more t u x released classes n p d e node_p at_p number_p l h = λ q node
 -- as many places have a class as before
 pub classed_after : (t : TreeValue) (x : Entry) (n p : ℕ) (classes : List Class) → length (classes_after t x n p classes) ≡ length classes
 classed_after t x n p classes = long_after (role_in t n) (channel_in t.nodes n) p (opens x) classes
+
+pub classed_moved : (t : TreeValue) (x : Entry) (n p count : ℕ) (old mid new : List Class) → new ≡ classes_after t x n p mid → mid ≡ old → length old ≡ count → length new ≡ count
+classed_moved t x n p count old mid new after kept long =
+    ap (λ (l : List Class). length l) after ∙ (classed_after t x n p mid ∙ (ap (λ (l : List Class). length l) kept ∙ long))
+
+pub classes_moved : (t : TreeValue) (x : Entry) (m n p : ℕ) (old mid new : List Class) → new ≡ classes_after t x m p mid → mid ≡ old → m ≡ n → new ≡ classes_after t x n p old
+classes_moved t x m n p old mid new after kept same = after ∙ (ap (classes_after t x m p) kept ∙ ap (λ (k : ℕ). classes_after t x k p old) same)
 
 pub place_within : (arena : List BareNode) (v : List Entry) (n p : ℕ) → AreOfTree arena → IsPlaceOf arena v n p → p < length arena
 place_within arena v n p a h = (let own = numbered_down arena MAX_TREE_NESTING 0 p a.named h.inside in slice_get_within arena p own.node own.at)

@@ -27,7 +27,7 @@ same_eq r i a b = go (a == b) refl (r a == r b) refl
     go false e true f = let g : a ≡ b = i a b (same_number (r a) (r b) f) in let h : (a == b) ≡ true = grind (arith, nat_tests) in f ∙ sym h
     go false e false f = f ∙ sym e
 
-append_map : (r : ℕ → ℕ) (a b : List ℕ) → map r (a ++ b) ≡ map r a ++ map r b
+pub append_map : (r : ℕ → ℕ) (a b : List ℕ) → map r (a ++ b) ≡ map r a ++ map r b
 append_map r [] b = refl
 append_map r (x ∷ a) b = ap (λ (l : List ℕ). r x ∷ l) (append_map r a b)
 
@@ -74,11 +74,11 @@ mutual
   nodes_map r (If n a b) = ap (λ (l : List ℕ). r n ∷ l) (rw (nodes_map r a, nodes_map r b) (sym (append_map r (nodes a) (nodes b))))
   nodes_map r (While n a) = ap (λ (l : List ℕ). r n ∷ l) (nodes_map r a)
 
-  nodes_all_map : (r : ℕ → ℕ) (es : Execs) → nodes_all (renamed_all r es) ≡ map r (nodes_all es)
+  pub nodes_all_map : (r : ℕ → ℕ) (es : Execs) → nodes_all (renamed_all r es) ≡ map r (nodes_all es)
   nodes_all_map r None_left = refl
   nodes_all_map r (Then e es) = rw (nodes_map r e, nodes_all_map r es) (sym (append_map r (nodes e) (nodes_all es)))
 
-part_map : (r : ℕ → ℕ) → IsOneToOne r → (e : Exec) (t : List Entry) → only (nodes (renamed r e)) (map (entry_renamed r) t) ≡ map (entry_renamed r) (only (nodes e) t)
+pub part_map : (r : ℕ → ℕ) → IsOneToOne r → (e : Exec) (t : List Entry) → only (nodes (renamed r e)) (map (entry_renamed r) t) ≡ map (entry_renamed r) (only (nodes e) t)
 part_map r i e t = ap (λ (ns : List ℕ). only ns (map (entry_renamed r) t)) (nodes_map r e) ∙ only_map r i (nodes e) t
 
 nodes_at_map : (r : ℕ → ℕ) (es : Execs) (k : ℕ) → nodes_at (renamed_all r es) k ≡ map r (nodes_at es k)
@@ -86,7 +86,7 @@ nodes_at_map r None_left k = refl
 nodes_at_map r (Then e es) zero = nodes_map r e
 nodes_at_map r (Then e es) (suc k) = nodes_at_map r es k
 
-part_at_map : (r : ℕ → ℕ) → IsOneToOne r → (es : Execs) (k : ℕ) (t : List Entry) → part_at (renamed_all r es) k (map (entry_renamed r) t) ≡ map (entry_renamed r) (part_at es k t)
+pub part_at_map : (r : ℕ → ℕ) → IsOneToOne r → (es : Execs) (k : ℕ) (t : List Entry) → part_at (renamed_all r es) k (map (entry_renamed r) t) ≡ map (entry_renamed r) (part_at es k t)
 part_at_map r i es k t = ap (λ (ns : List ℕ). only ns (map (entry_renamed r) t)) (nodes_at_map r es k) ∙ only_map r i (nodes_at es k) t
 
 count_map : (r : ℕ → ℕ) (es : Execs) → count (renamed_all r es) ≡ count es
@@ -117,11 +117,11 @@ test_map r i n (Pass m) = refl
 test_map r i n (Note m) = refl
 test_map r i n (Edit j v) = refl
 
-picks_map : (r : ℕ → ℕ) → IsOneToOne r → (n : ℕ) (t : List Entry) → picks (r n) (map (entry_renamed r) t) ≡ picks n t
+pub picks_map : (r : ℕ → ℕ) → IsOneToOne r → (n : ℕ) (t : List Entry) → picks (r n) (map (entry_renamed r) t) ≡ picks n t
 picks_map r i n [] = refl
 picks_map r i n (x ∷ t) = rw (pick_map r i n x, picks_map r i n t) refl
 
-abbrev turn : (ℕ → ℕ) → Turn → Turn
+abbrev pub turn : (ℕ → ℕ) → Turn → Turn
 turn r (Tested b t) = Tested b (map (entry_renamed r) t)
 
 lead_map : (r : ℕ → ℕ) → IsOneToOne r → (n : ℕ) (t : List Entry) → lead (r n) (map (entry_renamed r) t) ≡ map (entry_renamed r) (lead n t)
@@ -132,7 +132,7 @@ lead_map r i n (x ∷ t) = rw (test_map r i n x) (go (test_of n x) (lead_map r i
     go None h = ap (λ (l : List Entry). entry_renamed r x ∷ l) h
     go (Some b) h = refl
 
-turns_map : (r : ℕ → ℕ) → IsOneToOne r → (n : ℕ) (t : List Entry) → turns (r n) (map (entry_renamed r) t) ≡ map (turn r) (turns n t)
+pub turns_map : (r : ℕ → ℕ) → IsOneToOne r → (n : ℕ) (t : List Entry) → turns (r n) (map (entry_renamed r) t) ≡ map (turn r) (turns n t)
 turns_map r i n [] = refl
 turns_map r i n (x ∷ t) = rw (test_map r i n x) (go (test_of n x) (turns_map r i n t))
   where
@@ -169,7 +169,7 @@ loop_map r n f g (Tested true t ∷ []) h = ap (λ (l : List ℕ). first_of_two 
 loop_map r n f g (Tested false t ∷ []) h = refl
 loop_map r n f g (Tested b t ∷ Tested a u ∷ rest) h = loop_map r n f g (Tested a u ∷ rest) h
 
-body_map : (r : ℕ → ℕ) (ts : List Turn) → last_body (map (turn r) ts) ≡ map (entry_renamed r) (last_body ts)
+pub body_map : (r : ℕ → ℕ) (ts : List Turn) → last_body (map (turn r) ts) ≡ map (entry_renamed r) (last_body ts)
 body_map r [] = refl
 body_map r (Tested b t ∷ []) = refl
 body_map r (Tested b t ∷ Tested a u ∷ rest) = body_map r (Tested a u ∷ rest)

@@ -1,6 +1,7 @@
 -- What frames of places tell of the run that the log numbers, and how they move with it.
-use Rattle.std.specs.Prelude.{◌≡◌, ◌||◌, ℕ, Bool, true, false, List, [], ◌∷◌, ◌++◌, map, find, length, slice_get, option_map, Option, Some, None, MatchOption}
-use Rattle.std.proofs.Common.{refl, sym, ◌∙◌, ap, subst}
+use Rattle.std.specs.Prelude.{◌≡◌, ◌<◌, ◌==◌, ◌||◌, ℕ, Bool, true, false, List, [], ◌∷◌, ◌++◌, map, find, length, slice_get, option_map, Option, Some, None, IfSome, MatchOption}
+use Rattle.std.proofs.Common.{refl, sym, ◌∙◌, ap, subst, arith}
+use Rattle.std.proofs.lemmas.Bool.Decides.{nat_tests}
 use Rattle.exec_tree.specs.Exec.{Exec, has, AreDistinct, HasChoices, nodes}
 use Rattle.exec_tree.specs.Arena.{AreShaped, AreNamed, numbers_in, tree_down}
 use Rattle.exec_tree.specs.Walked.{place_from}
@@ -35,8 +36,8 @@ use Rattle.run_frames.specs.Renaming.{IsOneToOne, renamed, entry_renamed, entry_
 use Rattle.run_frames.specs.OfferAt.{offer_there, IsInOrder}
 use Rattle.run_frames.specs.Entered.{IsEntered}
 use Rattle.run_frames.specs.Held.{IsHeld, IsStep}
-use Rattle.run_frames.specs.First.{NoneAnswers, IsFirst}
-use Rattle.run_frames.specs.Standing.{IsAt, IsNextOf}
+use Rattle.run_frames.specs.Ready.{is_empty}
+use Rattle.run_frames.specs.Standing.{IsAt, IsPlace, IsNextOf}
 use Rattle.run_frames.proofs.RenamingLemmas.{next_map, offer_map, nodes_map, number_map}
 use Rattle.run_frames.proofs.RenamedPartLemmas.{PartLaws, part_back}
 use Rattle.run_frames.proofs.CountLemmas.{length_upto}
@@ -68,7 +69,7 @@ parts = record {
 }
 
 -- numbers for places, no two the same
-abbrev names : List BareNode → ℕ → ℕ
+abbrev pub names : List BareNode → ℕ → ℕ
 names arena = spread (number_at arena) (nodes (placed arena))
 
 mapped_nodes : (arena : List BareNode) → nodes (tree arena) ≡ map (number_at arena) (nodes (placed arena))
@@ -77,16 +78,16 @@ mapped_nodes arena = ap nodes (sym (numbered arena MAX_TREE_NESTING 0)) ∙ node
 pub placed_once : (arena : List BareNode) → AreDistinct (nodes (tree arena)) → AreDistinct (nodes (placed arena))
 placed_once arena d = distinct_back (number_at arena) (nodes (placed arena)) (subst AreDistinct (mapped_nodes arena) d)
 
-names_once : (arena : List BareNode) → AreDistinct (nodes (tree arena)) → IsOneToOne (names arena)
+pub names_once : (arena : List BareNode) → AreDistinct (nodes (tree arena)) → IsOneToOne (names arena)
 names_once arena d = spread_once (number_at arena) (nodes (placed arena)) (subst AreDistinct (mapped_nodes arena) d)
 
-names_are : (arena : List BareNode) (m : ℕ) → has (nodes (placed arena)) m ≡ true → names arena m ≡ number_at arena m
+pub names_are : (arena : List BareNode) (m : ℕ) → has (nodes (placed arena)) m ≡ true → names arena m ≡ number_at arena m
 names_are arena m h = spread_is (number_at arena) (nodes (placed arena)) m h
 
-named : (arena : List BareNode) → renamed (names arena) (placed arena) ≡ tree arena
+pub named : (arena : List BareNode) → renamed (names arena) (placed arena) ≡ tree arena
 named arena = renamed_same (names arena) (number_at arena) (placed arena) (names_are arena) ∙ numbered arena MAX_TREE_NESTING 0
 
-named_entries : (arena : List BareNode) (f : Frames) (t : List Entry) (s : IsAt arena f t) → map (entry_renamed (names arena)) s.entries ≡ t
+pub named_entries : (arena : List BareNode) (f : Frames) (t : List Entry) (s : IsAt arena f t) → map (entry_renamed (names arena)) s.entries ≡ t
 named_entries arena f t s =
     let own = only_all (nodes (placed arena)) s.entries (part_inside (placed arena) s.entries s.held.part) in
     ap (map (entry_renamed (names arena))) (sym own)
@@ -110,16 +111,42 @@ ascending arena t a =
     let order = placed_ascends arena a.named (subst AreDistinct (sym a.preorder) a.distinct) (a.preorder ∙ mapped_nodes arena) in
     part_ascends (has (next (placed arena) t)) (nodes (placed arena)) (next (placed arena) t) order (next_is_in_preorder (placed arena) t (placed_once arena a.distinct))
 
+-- the test says no at each place of the set, or this is the first of the set at which it says yes
+abbrev pub IsFirstYes : (ℕ → Bool) → List ℕ → Option ℕ → Type 0
+IsFirstYes test set found =
+    MatchOption found ((q : ℕ) → holds set q ≡ true → test q ≡ false) (λ p. (holds set p ≡ true) × (test p ≡ true) × ((q : ℕ) → q < p → holds set q ≡ true → test q ≡ false))
+
 -- the first place of the set is the first in the order of the tree
-pub first_is : (arena : List BareNode) (f : Frames) (t : List Entry) (test : ℕ → Bool) (found : Option ℕ) → AreOfTree arena → IsAt arena f t → MatchOption found (NoneAnswers (number_at arena) test f.set.all) (IsFirst (number_at arena) test f.set.all) → found ≡ find test (next (tree arena) t)
+pub first_is : (arena : List BareNode) (f : Frames) (t : List Entry) (test : ℕ → Bool) (found : Option ℕ) → AreOfTree arena → IsAt arena f t → IsFirstYes (λ q. test (number_at arena q)) f.set.all found
+    → option_map (number_at arena) found ≡ find test (next (tree arena) t)
 first_is arena f t test None a s h =
     let ns = next (placed arena) s.entries in
     sym (ap (find test) (next_is arena f t a.distinct s) ∙ find_nothing (number_at arena) test ns (λ q i. h q (s.held.goes_on q ∙ i)))
-first_is arena f t test (Some n) a s h =
+first_is arena f t test (Some p) a s h =
     let ns = next (placed arena) s.entries in
-    ap (λ (m : ℕ). Some m) (sym h.is_number)
-    ∙ sym (ap (find test) (next_is arena f t a.distinct s)
-    ∙ find_least (number_at arena) test 0 ns h.place (ascending arena s.entries a) (sym (s.held.goes_on h.place) ∙ h.there) h.answers (λ q l i. h.before q l (s.held.goes_on q ∙ i)))
+    sym (ap (find test) (next_is arena f t a.distinct s) ∙ find_least (number_at arena) test 0 ns p (ascending arena s.entries a) (sym (s.held.goes_on p) ∙ h.0) h.1 (λ q l i. h.2 q l (s.held.goes_on q ∙ i)))
+
+-- each place of the set is found by its number
+pub place_held : (arena : List BareNode) (f : Frames) (t : List Entry) (p : ℕ) → AreOfTree arena → IsAt arena f t → holds f.set.all p ≡ true → IsPlace arena p
+place_held arena f t p a s h =
+    let here = next_inside arena s.entries p (placed_once arena a.distinct) (sym (s.held.goes_on p) ∙ h) in
+    place_found arena p (numbered_down arena MAX_TREE_NESTING 0 p a.named here) (subst AreDistinct (sym a.preorder) a.distinct)
+
+-- the set has no place exactly where the run can go on nowhere
+pub none_left : (arena : List BareNode) (f : Frames) (t : List Entry) (r : Bool) → AreDistinct (nodes (tree arena)) → IsAt arena f t
+    → (r ≡ true → (q : ℕ) → holds f.set.all q ≡ false) → (((q : ℕ) → holds f.set.all q ≡ false) → r ≡ true) → r ≡ is_empty (next (tree arena) t)
+none_left arena f t r d s forth back = go (next (placed arena) s.entries) refl ∙ sym (ap is_empty (next_is arena f t d s))
+  where
+    own : (n : ℕ) (ns : List ℕ) → has (n ∷ ns) n ≡ true
+    own n ns = (let e : (n == n) ≡ true = grind (arith, nat_tests) in ap (λ (b : Bool). b || has ns n) e)
+
+    some : (n : ℕ) (ns : List ℕ) (b : Bool) → r ≡ b → next (placed arena) s.entries ≡ n ∷ ns → r ≡ false
+    some n ns false e i = e
+    some n ns true e i = absurd (let w : true ≡ false = sym (s.held.goes_on n ∙ (ap (λ (l : List ℕ). has l n) i ∙ own n ns)) ∙ forth e n in cc)
+
+    go : (ns : List ℕ) → next (placed arena) s.entries ≡ ns → r ≡ is_empty (map (number_at arena) (next (placed arena) s.entries))
+    go [] e = back (λ q. s.held.goes_on q ∙ ap (λ (l : List ℕ). has l q) e) ∙ sym (ap (λ (l : List ℕ). is_empty (map (number_at arena) l)) e)
+    go (n ∷ ns) e = some n ns r refl e ∙ sym (ap (λ (l : List ℕ). is_empty (map (number_at arena) l)) e)
 
 -- ---- the place of a number
 
@@ -154,11 +181,11 @@ does_something arena f t n p a s i h = subst IsOpen (offer_there_is arena f t n 
 
 -- ---- one entry more
 
-map_more : (r : ℕ → ℕ) (t : List Entry) (x : Entry) → map (entry_renamed r) (t ++ x ∷ []) ≡ map (entry_renamed r) t ++ entry_renamed r x ∷ []
+pub map_more : (r : ℕ → ℕ) (t : List Entry) (x : Entry) → map (entry_renamed r) (t ++ x ∷ []) ≡ map (entry_renamed r) t ++ entry_renamed r x ∷ []
 map_more r [] x = refl
 map_more r (y ∷ t) x = ap (λ (l : List Entry). entry_renamed r y ∷ l) (map_more r t x)
 
-part_more : (arena : List BareNode) (f : Frames) (t : List Entry) (x : Entry) (p n : ℕ) → AreOfTree arena → (s : IsAt arena f t) → Part (tree arena) (t ++ x ∷ []) → IsPlaceOf arena s.entries n p → number_of x ≡ Some n → Part (placed arena) (s.entries ++ entry_at p x ∷ [])
+pub part_more : (arena : List BareNode) (f : Frames) (t : List Entry) (x : Entry) (p n : ℕ) → AreOfTree arena → (s : IsAt arena f t) → Part (tree arena) (t ++ x ∷ []) → IsPlaceOf arena s.entries n p → number_of x ≡ Some n → Part (placed arena) (s.entries ++ entry_at p x ∷ [])
 part_more arena f t x p n a s q h k =
     let r = names arena in
     let name : r p ≡ n = names_are arena p h.inside ∙ h.is_number in
@@ -167,7 +194,7 @@ part_more arena f t x p n a s q h k =
     map_more r s.entries (entry_at p x) ∙ (ap (λ (l : List Entry). l ++ entry_renamed r (entry_at p x) ∷ []) (named_entries arena f t s) ∙ ap (λ (y : Entry). t ++ y ∷ []) back) in
     part_back parts r (names_once arena a.distinct) (placed arena) (s.entries ++ entry_at p x ∷ []) (placed_once arena a.distinct) (subst (λ (l : List Entry). Part (renamed r (placed arena)) l) (sym whole) (subst (λ (w : Exec). Part w (t ++ x ∷ [])) (sym (named arena)) q))
 
-number_here : (p n : ℕ) (x : Entry) → number_of x ≡ Some n → number_of (entry_at p x) ≡ Some p
+pub number_here : (p n : ℕ) (x : Entry) → number_of x ≡ Some n → number_of (entry_at p x) ≡ Some p
 number_here p n x k = number_map (λ m. p) x ∙ ap (option_map (λ m. p)) k
 
 picks_same : (total : ℕ) (ks : List ℕ) (count k : ℕ) → Picks total ks ≡ Picks count (upto k) → ks ≡ upto k
@@ -280,18 +307,11 @@ place_is_of arena f t n p found a s h e i =
     let same : r.0 ≡ p = some_is r.0 p (sym r.1.found ∙ (sym e ∙ i)) in
     subst (λ (q : ℕ). IsPlaceOf arena s.entries n q) same r.1
 
-pub place_is_there : (arena : List BareNode) (f : Frames) (t : List Entry) (n : ℕ) (found : Option ℕ) → AreOfTree arena → IsAt arena f t → has (next (tree arena) t) n ≡ true → found ≡ place_from 0 arena n → found ≡ None → ⊥
-place_is_there arena f t n found a s h e i =
-    let r = place_of arena f t n a s h in
-    no_some r.0 (sym i ∙ (e ∙ r.1.found))
+-- the number of an entry of a run so far, at whose place the run can go on
+pub entry_place : (arena : List BareNode) (f : Frames) (t : List Entry) (x : Entry) (p : ℕ) → AreOfTree arena → (s : IsAt arena f t) → Part (tree arena) (t ++ x ∷ []) → IfSome (number_of x) (λ n. place_from 0 arena n ≡ Some p)
+    → (n : ℕ) × (number_of x ≡ Some n) × IsPlaceOf arena s.entries n p
+entry_place arena f t x p a s q h = go (number_of x) refl h
   where
-    no_some : (p : ℕ) → None ≡ Some p → ⊥
-    no_some p w = cc
-
-pub node_is_there : (arena : List BareNode) (t : List Entry) (n p : ℕ) → AreOfTree arena → IsPlaceOf arena t n p → slice_get arena p ≡ None → ⊥
-node_is_there arena t n p a h none =
-    let s = numbered_down arena MAX_TREE_NESTING 0 p a.named h.inside in
-    no_some s.node (sym none ∙ s.at)
-  where
-    no_some : (node : BareNode) → None ≡ Some node → ⊥
-    no_some node w = cc
+    go : (o : Option ℕ) → number_of x ≡ o → IfSome o (λ n. place_from 0 arena n ≡ Some p) → (n : ℕ) × (number_of x ≡ Some n) × IsPlaceOf arena s.entries n p
+    go None e i = absurd (numbered_entry arena t x a.distinct q e)
+    go (Some n) e i = (n, e, place_is_of arena f t n p (place_from 0 arena n) a s (entry_next arena t x n a.distinct q e) refl i)

@@ -7,7 +7,6 @@ pub mod Entered
 pub mod Ways
 pub mod OfferAt
 pub mod Held
-pub mod First
 pub mod Standing
 pub mod Waits
 pub mod Ready

@@ -1,5 +1,5 @@
 -- Which of the nodes where a run can go on may go on now, by their roles, and the classes of places that say so.
-use Rattle.std.specs.Prelude.{◌≡◌, ◌==◌, ◌||◌, ◌&&◌, not, ℕ, Bool, true, false, List, slice_get, slice_set, nat_lt, if◌then◌else◌, Option, Some, None}
+use Rattle.std.specs.Prelude.{◌≡◌, ◌==◌, ◌||◌, ◌&&◌, not, ℕ, Bool, true, false, List, [], ◌∷◌, slice_get, slice_set, nat_lt, if◌then◌else◌, Option, Some, None}
 use Rattle.std.specs.Option.{option_map_or}
 use Rattle.exec_tree.specs.Exec.{has}
 use Rattle.exec_tree.specs.Built.{TreeValue, channel_in, role_in}
@@ -25,6 +25,11 @@ may_by role.Free open_now idle released = true
 -- node n is of this channel, which is idle or not, and may go on
 abbrev pub is_ready : TreeValue → List Entry → List ℕ → ℕ → Bool → ℕ → Bool
 is_ready tree t released channel idle n = (channel_in tree.nodes n == channel) && may_by (role_in tree n) (is_open n t) idle released
+
+-- there is no node where a run can go on
+abbrev pub is_empty : List ℕ → Bool
+is_empty [] = true
+is_empty (n ∷ ns) = false
 
 -- node n waits for a mark that isn't among those released
 abbrev pub waits_by : Role → List ℕ → Bool

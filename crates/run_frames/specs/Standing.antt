@@ -1,7 +1,8 @@
 -- When frames stand for the entries of a run so far.
-use Rattle.std.specs.Prelude.{◌≡◌, ℕ, List, map, length}
+use Rattle.std.specs.Prelude.{◌≡◌, ℕ, List, map, length, Some}
 use Rattle.exec_tree.specs.Exec.{Exec}
 use Rattle.exec_tree.specs.Arena.{tree_down}
+use Rattle.exec_tree.specs.Walked.{place_from}
 use Rattle.exec_tree.specs.declared.limits.TheConstants.{MAX_TREE_NESTING}
 use Rattle.exec_tree.specs.declared.node.BareNode.{BareNode}
 use Rattle.trace_law.specs.Part.{Part}
@@ -23,6 +24,10 @@ pub record IsAt (nodes : List BareNode) (f : Frames) (t : List Entry) : Type 0 w
   pub held : IsHeld nodes f.frames.items f.set.all entries
   pub table : IsTable nodes f.table.rows.items
   pub classed : length f.set.classes ≡ length nodes
+
+-- the place is the one of a node with a number
+abbrev pub IsPlace : List BareNode → ℕ → Type 0
+IsPlace nodes p = place_from 0 nodes (number_at nodes p) ≡ Some p
 
 -- a pick takes the least index that is left, where the first indices are picked
 abbrev pub IsNextOf : Exec → List Entry → Entry → Type 0

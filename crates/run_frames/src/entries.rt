@@ -1,11 +1,9 @@
 //! What an entry makes of its node's frame.
 
 ghost use Rattle.std.specs.Prelude.{◌≡◌};
-ghost use Rattle.trace_law.specs.Of.{number_of};
 ghost use Rattle.run_frames.specs.Entries.{cut, ends, answer_in};
 
 use crate::frame::Frame;
-use nc_base::Number;
 use run_log::Entry;
 
 /// The frame of a workingstep after an entry of it.
@@ -37,23 +35,5 @@ pub fn answer_in(entry: &Entry) -> bool
     match *entry {
         Entry::Test { yes, .. } => yes,
         _ => false,
-    }
-}
-
-/// The number of the entry's node, or none for an edit.
-pub fn entry_number(entry: &Entry) -> Option<Number>
-    ensures { result ≡ number_of entry.now }
-{
-    match *entry {
-        Entry::Dispatch { n, .. }
-        | Entry::Block { n, .. }
-        | Entry::End { n }
-        | Entry::Pick { n, .. }
-        | Entry::Test { n, .. }
-        | Entry::Assign { n, .. }
-        | Entry::Set { n }
-        | Entry::Pass { n }
-        | Entry::Note { n } => Some(n),
-        Entry::Edit { .. } => None,
     }
 }

@@ -1,54 +1,47 @@
 //! The frames of a run.
 
-ghost use Rattle.std.specs.Prelude.{◌≡◌, ◌≢◌, ◌<◌, ◌∷◌, ◌++◌, [], ℕ, Bool, List, true, false, IfOk, MatchOption, find, length, map};
+ghost use Rattle.std.specs.Prelude.{◌≡◌, ◌≢◌, ◌<◌, ◌≤◌, ◌+◌, ◌*◌, ◌∷◌, ◌++◌, [], ℕ, List, Some, true, false, IfOk, IfSome, find, length, option_map, slice_get};
 ghost use Rattle.std.specs.List.{list_all};
-ghost use Rattle.exec_tree.specs.Exec.{has, nodes};
+ghost use Rattle.exec_tree.specs.Exec.{has};
 ghost use Rattle.exec_tree.specs.Built.{channel_in, role_in};
+ghost use Rattle.exec_tree.specs.Walked.{place_from};
 ghost use Rattle.exec_tree.specs.declared.limits.TheConstants.{MAX_CHANNELS};
 ghost use Rattle.place_set.specs.declared.set.TheConstants.{MAX_PLACES};
 ghost use Rattle.exec_tree.specs.Said.{bare_of};
 ghost use Rattle.exec_tree.specs.declared.kind.Kind.TheVariants as kinds;
 ghost use Rattle.exec_tree.specs.declared.node.BareNode.{BareNode};
 ghost use Rattle.trace_law.specs.Below.{tree_in};
+ghost use Rattle.trace_law.specs.Of.{number_of};
 ghost use Rattle.trace_law.specs.Next.{next};
 ghost use Rattle.trace_law.specs.Offer.{offer};
 ghost use Rattle.trace_law.specs.Part.{Part};
 ghost use Rattle.run_log.specs.declared.entry.Entry.{Entry};
+ghost use Rattle.frame_law.specs.ComeTo.{nesting, new_in};
+ghost use Rattle.frame_law.specs.Looks.{AreNumbered};
 ghost use Rattle.tree_table.specs.Placed.{number_at};
 ghost use Rattle.run_frames.specs.Deeds.{deed_offer};
 ghost use Rattle.run_frames.specs.Entered.{AreUnpickedIn};
-ghost use Rattle.run_frames.specs.First.{NoneAnswers, IsFirst};
 ghost use Rattle.run_frames.specs.Frames.{told};
 ghost use Rattle.run_frames.specs.OfferAt.{offer_at};
-ghost use Rattle.run_frames.specs.Standing.{IsAt, IsNextOf};
+ghost use Rattle.run_frames.specs.Standing.{IsAt, IsPlace, IsNextOf};
 ghost use Rattle.place_classes.specs.Classes.{IsClass, class_at};
-ghost use Rattle.run_frames.specs.Ready.{IsSorted, AreClasses, is_ready, waits_by, opens, class_in, classes_when, classes_after};
+ghost use Rattle.run_frames.specs.Ready.{IsSorted, AreClasses, is_empty, is_ready, waits_by, opens, class_in, classes_when, classes_after};
 ghost use Rattle.exec_tree.specs.declared.role.Role.TheVariants as role;
 
 use crate::deed::Deed;
 use crate::entering::enter_tree;
-use crate::entries::entry_number;
 use crate::frame::{Frame, frame_at, picked_by};
 use crate::moving::move_at;
-use crate::nodes::{node_at, number_at};
+use crate::nodes::number_at;
 use crate::waits::Waits;
 use exec_tree::laws::places_are_found;
 use exec_tree::{Kind, MAX_CHANNELS, Node, Role, Tree};
-use nc_base::{NoMemory, Number};
+use nc_base::{NoMemory, Steps};
 use place_classes::{Class, Sorted};
 use run_log::Entry;
 use std::alloc::Global;
+use std::sync::ledger::Ledger;
 use tree_table::Table;
-
-/// A question that is asked of nodes by their numbers.
-pub trait Question {
-    /// Whether the answer for a node is yes.
-    ghost answer: { Self → ℕ → Bool };
-
-    /// Whether the answer for node `n` is yes.
-    fn asks(&self, n: Number) -> bool
-        ensures { result ≡ answer self.now n };
-}
 
 /// Where a run stands in its tree: of each node to which it has come what that has in its present turn, and all nodes where it can go on,
 /// with the table of the tree, which tells where a node leads and where the run goes on from it. What frames stand for is told by `IsAt`.
@@ -97,27 +90,16 @@ fn blank(alloc: Global, count: usize) -> Result<Vec<Frame>, NoMemory>
     Ok(frames)
 }
 
-/// The number at the first place of the set at which the answer is yes.
-fn first_with<Q: Question>(arena: &[Node], set: &Sorted, question: &Q) -> Option<Number>
-    ensures { MatchOption result (NoneAnswers (number_at (map bare_of arena.now)) (Q.answer question.now) set.now.all) (IsFirst (number_at (map bare_of arena.now)) (Q.answer question.now) set.now.all) }
-{
-    let mut from = 0;
-    while let Some(place) = set.first_from(from) {
-        let number = number_at(arena, place);
-        if question.asks(number) {
-            return Some(number);
-        }
-        from = place + 1;
-    }
-    None
-}
-
 impl Frames {
-    /// The frames of a run that has no entry yet.
+    /// The frames of a run that has no entry yet. Once the table is made, each look at a node counts one step.
     ///
     /// # Errors
     /// `NoMemory` where there is none for a frame and a row of each node.
-    pub fn open(alloc: Global, tree: &Tree) -> Result<Frames, NoMemory>
+    pub fn open<L: Ledger>(
+        alloc: Global,
+        tree: &Tree,
+        steps: &mut Steps<L>,
+    ) -> Result<Frames, NoMemory>
         ensures at { IfOk result (λ f. IsAt tree.now.nodes f []) }
         ensures sorted { IfOk result (λ f. IsSorted tree.now f [] []) }
     {
@@ -126,7 +108,7 @@ impl Frames {
         let mut frames = blank(alloc, arena.len())?;
         let mut set = Sorted::new(alloc, first_classes(alloc, tree)?)?;
         let waits = Waits::new(alloc, tree)?;
-        enter_tree(arena, &table, frames.as_mut_slice(), &mut set);
+        enter_tree(tree, &table, frames.as_mut_slice(), &mut set, steps);
         Ok(Frames {
             frames,
             table,
@@ -135,26 +117,13 @@ impl Frames {
         })
     }
 
-    /// The first node, in the order of the tree, where the run can go on and for which the answer is yes.
-    pub fn first<Q: Question>(&self, tree: &Tree, question: &Q) -> Option<Number>
-        requires { (t : List Entry) × IsAt tree.now.nodes self.now t }
-        ensures { (t : List Entry) → IsAt tree.now.nodes self.now t → result ≡ find (Q.answer question.now) (next (tree_in tree.now) t) }
+    /// What the node at a place where the run can go on does next. The caller has looked at the node.
+    pub fn deed(&self, tree: &Tree, node: &Node, place: u32) -> Deed
+        requires node { slice_get tree.now.nodes place ≡ Some (bare_of node.now) }
+        requires at { (t : List Entry) × IsAt tree.now.nodes self.now t × IsPlace tree.now.nodes place × (has (next (tree_in tree.now) t) (number_at tree.now.nodes place) ≡ true) }
+        ensures { (t : List Entry) → IsAt tree.now.nodes self.now t → has (next (tree_in tree.now) t) (number_at tree.now.nodes place) ≡ true → deed_offer result ≡ offer (tree_in tree.now) t (number_at tree.now.nodes place) }
     {
-        first_with(tree.nodes(), &self.set, question)
-    }
-
-    /// What a node does next where the run can go on.
-    pub fn deed(&self, tree: &Tree, n: Number) -> Deed
-        requires { (t : List Entry) × IsAt tree.now.nodes self.now t × (has (next (tree_in tree.now) t) n ≡ true) }
-        ensures { (t : List Entry) → IsAt tree.now.nodes self.now t → has (next (tree_in tree.now) t) n ≡ true → deed_offer result ≡ offer (tree_in tree.now) t n }
-    {
-        let arena = tree.nodes();
-        let Some(place) = tree.place_of(n) else {
-            return Deed::Notes;
-        };
-        let Some(node) = node_at(arena, place) else {
-            return Deed::Notes;
-        };
+        tree.nodes();
         deed_at(
             node.kind.kind(),
             frame_at(&self.frames, place),
@@ -162,56 +131,66 @@ impl Frames {
         )
     }
 
-    /// Moves the frames by an entry with which the run is still a run so far. A pick takes the least index that is left. It takes no memory.
-    pub fn advance(&mut self, tree: &Tree, entry: &Entry)
-        requires { (t : List Entry) × IsAt tree.now.nodes self.old t × Part (tree_in tree.now) (t ++ entry.now ∷ []) × IsNextOf (tree_in tree.now) t entry.now }
+    /// Moves the frames by an entry of the node at a place, with which the run is still a run so far. A pick takes the least index that is
+    /// left. It takes no memory. Each look at a node counts one step: where each element of the tree has a number, at most three more than the
+    /// tree's greatest nesting and twice the number of nodes that are new by the entry.
+    pub fn advance<L: Ledger>(
+        &mut self,
+        tree: &Tree,
+        place: u32,
+        entry: &Entry,
+        steps: &mut Steps<L>,
+    )
+        requires place { IfSome (number_of entry.now) (λ n. place_from 0 tree.now.nodes n ≡ Some place) }
+        requires at { (t : List Entry) × IsAt tree.now.nodes self.old t × Part (tree_in tree.now) (t ++ entry.now ∷ []) × IsNextOf (tree_in tree.now) t entry.now }
         ensures at { (t : List Entry) → IsAt tree.now.nodes self.old t → Part (tree_in tree.now) (t ++ entry.now ∷ []) → IsAt tree.now.nodes self.new (t ++ entry.now ∷ []) }
         ensures sorted { (t : List Entry) (released : List ℕ) → IsAt tree.now.nodes self.old t → Part (tree_in tree.now) (t ++ entry.now ∷ []) → IsSorted tree.now self.old t released → IsSorted tree.now self.new (t ++ entry.now ∷ []) released }
+        ensures looks { (t : List Entry) → IsAt tree.now.nodes self.old t → Part (tree_in tree.now) (t ++ entry.now ∷ []) → AreNumbered (tree_in tree.now) → steps.new ≤ steps.old + (3 + nesting (tree_in tree.now) + 2 * length (new_in (tree_in tree.now) t entry.now)) }
     {
-        let arena = tree.nodes();
-        let Some(number) = entry_number(entry) else {
-            return;
-        };
-        let Some(place) = tree.place_of(number) else {
-            return;
-        };
+        tree.nodes();
         move_at(
-            arena,
+            tree,
             &self.table,
             self.frames.as_mut_slice(),
             &mut self.set,
             place,
             entry,
+            steps,
         );
-        sort_by(&mut self.set, tree, number, place, entry);
+        sort_by(&mut self.set, tree, place, entry, steps);
     }
 
-    /// The mark of this number is set for the first time: the waits for it may go on. It looks at no other node.
-    pub fn release(&mut self, tree: &Tree, mark: Number)
+    /// The mark at a place is set for the first time: the waits for it may go on. It looks at no node.
+    pub fn release(&mut self, tree: &Tree, mark: u32)
         requires at { (t : List Entry) × (released : List ℕ) × IsAt tree.now.nodes self.old t × IsSorted tree.now self.old t released }
-        requires mark { has (nodes (tree_in tree.now)) mark ≡ true }
+        requires mark { IsPlace tree.now.nodes mark }
         ensures at { (t : List Entry) → IsAt tree.now.nodes self.old t → IsAt tree.now.nodes self.new t }
-        ensures sorted { (t : List Entry) (released : List ℕ) → IsAt tree.now.nodes self.old t → IsSorted tree.now self.old t released → IsSorted tree.now self.new t (released ++ mark ∷ []) }
+        ensures sorted { (t : List Entry) (released : List ℕ) → IsAt tree.now.nodes self.old t → IsSorted tree.now self.old t released → IsSorted tree.now self.new t (released ++ number_at tree.now.nodes mark ∷ []) }
     {
         places_are_found();
-        tree.nodes();
-        if let Some(place) = tree.place_of(mark) {
-            self.waits.free(&mut self.set, tree, place);
-        }
+        self.waits.free(&mut self.set, tree, mark);
     }
 
-    /// The first node of a channel, in the order of the tree, where the run can go on and that may go on now: a step that is open, or any of the
-    /// channel where that is idle, a wait whose mark was released, any other node. It looks at two sets, however many nodes there are.
-    pub fn ready(&self, tree: &Tree, channel: u8, idle: bool) -> Option<Number>
+    /// The place of the first node of a channel, in the order of the tree, where the run can go on and that may go on now: a step that is open,
+    /// or any of the channel where that is idle, a wait whose mark was released, any other node. It looks at two sets, however many nodes there
+    /// are, and at no node.
+    pub fn ready(&self, tree: &Tree, channel: u8, idle: bool) -> Option<u32>
         requires channel { channel < MAX_CHANNELS }
         requires at { (t : List Entry) × (released : List ℕ) × IsAt tree.now.nodes self.now t × IsSorted tree.now self.now t released }
-        ensures { (t : List Entry) (released : List ℕ) → IsAt tree.now.nodes self.now t → IsSorted tree.now self.now t released → result ≡ find (is_ready tree.now t released channel idle) (next (tree_in tree.now) t) }
+        ensures node { (t : List Entry) (released : List ℕ) → IsAt tree.now.nodes self.now t → IsSorted tree.now self.now t released → option_map (number_at tree.now.nodes) result ≡ find (is_ready tree.now t released channel idle) (next (tree_in tree.now) t) }
+        ensures place { IfSome result (IsPlace tree.now.nodes) }
     {
-        let arena = tree.nodes();
-        match self.set.first_in_channel(channel, idle) {
-            Some(place) => Some(number_at(arena, place)),
-            None => None,
-        }
+        tree.nodes();
+        self.set.first_in_channel(channel, idle)
+    }
+
+    /// Whether the run can go on nowhere.
+    pub fn is_empty(&self, tree: &Tree) -> bool
+        requires { (t : List Entry) × IsAt tree.now.nodes self.now t }
+        ensures { (t : List Entry) → IsAt tree.now.nodes self.now t → result ≡ is_empty (next (tree_in tree.now) t) }
+    {
+        tree.nodes();
+        self.set.is_empty()
     }
 
     /// Whether each node where the run can go on waits for a mark that wasn't released.
@@ -251,18 +230,29 @@ fn opens(entry: &Entry) -> Option<bool>
     }
 }
 
-/// Says the class of an entry's node after the entry: a workingstep's changes where it is dispatched or ends.
-fn sort_by(set: &mut Sorted, tree: &Tree, number: Number, place: u32, entry: &Entry)
+/// Says the class of an entry's node, at a place, after the entry: a workingstep's changes where it is dispatched or ends. Only then is the
+/// node looked at, which counts one step.
+fn sort_by<L: Ledger>(
+    set: &mut Sorted,
+    tree: &Tree,
+    place: u32,
+    entry: &Entry,
+    steps: &mut Steps<L>,
+)
     requires there { place < length set.old.classes }
     requires within { place < MAX_PLACES }
+    requires place { IsPlace tree.now.nodes place }
     ensures all { set.new.all ≡ set.old.all }
-    ensures classes { set.new.classes ≡ classes_after tree.now entry.now number place set.old.classes }
+    ensures classes { set.new.classes ≡ classes_after tree.now entry.now (number_at tree.now.nodes place) place set.old.classes }
+    ensures looks { steps.new ≤ steps.old + 1 }
 {
     let Some(started) = opens(entry) else {
         return;
     };
-    match tree.role(number) {
-        Role::Cutting => sort_step(set, tree.channel(number), place, started),
+    places_are_found();
+    let node = tree.node(place, steps);
+    match node.kind.kind() {
+        Kind::Work => sort_step(set, node.channel, place, started),
         _ => {}
     }
 }

@@ -1,11 +1,11 @@
 //! The way on by the table of a tree, once a node is over.
 
-ghost use Rattle.std.specs.Prelude.{◌≡◌, ◌≢◌, ◌<◌, ◌-◌, ◌==◌, map, length, slice_set};
+ghost use Rattle.std.specs.Prelude.{◌≡◌, ◌<◌, ◌≤◌, ◌+◌, ◌-◌, ◌==◌, length, slice_set};
 ghost use Rattle.exec_tree.specs.Arena.{AreShaped, IsClosed};
-ghost use Rattle.exec_tree.specs.Said.{bare_of};
 ghost use Rattle.exec_tree.specs.Exec.{nodes, AreDistinct};
 ghost use Rattle.trace_law.specs.Frames.{left};
 ghost use Rattle.frame_law.specs.Onward.{Onward};
+ghost use Rattle.frame_law.specs.Looks.{way_looks};
 ghost use Rattle.tree_table.specs.Placed.{placed};
 ghost use Rattle.tree_table.specs.Rows.{after_at};
 ghost use Rattle.tree_table.specs.Table.{IsTable, count_at};
@@ -17,10 +17,11 @@ ghost use Rattle.run_frames.specs.Ways.{IsWay, HasGone};
 
 use crate::entering::enter_at;
 use crate::frame::{Frame, frame_at, left_in, picked_by};
-use crate::nodes::node_at;
-use exec_tree::Node;
+use exec_tree::Tree;
+use nc_base::Steps;
 use place_classes::Sorted;
-use tree_table::{Continuation, Table};
+use std::sync::ledger::Ledger;
+use tree_table::{Continuation, Table, look_at};
 
 /// Where the run goes on when the node at a place is over.
 pub fn after_at(table: &Table, place: u32) -> Continuation
@@ -32,11 +33,12 @@ pub fn after_at(table: &Table, place: u32) -> Continuation
     }
 }
 
-/// How many elements the node at a place has.
-fn count_at(arena: &[Node], place: u32) -> usize
-    ensures { result ≡ count_at (map bare_of arena.now) place }
+/// How many elements the node at a place has. The look at the node counts one step.
+fn count_at<L: Ledger>(tree: &Tree, place: u32, steps: &mut Steps<L>) -> usize
+    ensures count { result ≡ count_at tree.now.nodes place }
+    ensures looks { steps.new ≤ steps.old + 1 }
 {
-    match node_at(arena, place) {
+    match look_at(tree, place, steps) {
         Some(node) => node.elements.as_slice().len(),
         None => 0,
     }
@@ -53,67 +55,85 @@ fn count_down(frames: &mut [Frame], place: u32) -> bool
     left == 1
 }
 
-/// Goes on where a node is over, as its row says.
+/// Goes on where a node is over, as its row says. Each look at a node counts one step.
 #[cycle(going_on)]
-pub fn go_on(
-    arena: &[Node],
+pub fn go_on<L: Ledger>(
+    tree: &Tree,
     table: &Table,
     frames: &mut [Frame],
     set: &mut Sorted,
     continuation: Continuation,
+    steps: &mut Steps<L>,
 )
-    requires shaped { AreShaped (map bare_of arena.now) }
-    requires closed { IsClosed (map bare_of arena.now) 0 (length arena.now) }
-    requires distinct { AreDistinct (nodes (placed (map bare_of arena.now))) }
-    requires table { IsTable (map bare_of arena.now) table.now.rows.items }
-    requires way { (k : Onward) × IsWay (map bare_of arena.now) table.now.rows.items continuation k }
-    requires room { length frames.old ≡ length arena.now }
-    requires unpicked { AreUnpickedIn (map bare_of arena.now) frames.old }
-    ensures moved { (k : Onward) → IsWay (map bare_of arena.now) table.now.rows.items continuation k → HasGone (map bare_of arena.now) frames.old frames.new set.old.all set.new.all k }
+    requires shaped { AreShaped tree.now.nodes }
+    requires closed { IsClosed tree.now.nodes 0 (length tree.now.nodes) }
+    requires distinct { AreDistinct (nodes (placed tree.now.nodes)) }
+    requires table { IsTable tree.now.nodes table.now.rows.items }
+    requires way { (k : Onward) × IsWay tree.now.nodes table.now.rows.items continuation k }
+    requires room { length frames.old ≡ length tree.now.nodes }
+    requires unpicked { AreUnpickedIn tree.now.nodes frames.old }
+    ensures moved { (k : Onward) → IsWay tree.now.nodes table.now.rows.items continuation k → HasGone tree.now.nodes frames.old frames.new set.old.all set.new.all k }
     ensures kept { set.new.classes ≡ set.old.classes }
+    ensures looks { (k : Onward) → IsWay tree.now.nodes table.now.rows.items continuation k → steps.new ≤ steps.old + way_looks (cells_of frames.old) k }
 {
     match continuation {
         Continuation::Done => {}
-        Continuation::Opens(place) => enter_at(arena, table, frames, set, place),
-        Continuation::Joins(place) => join(arena, table, frames, set, place),
-        Continuation::PicksOn(place) => pick_on(arena, table, frames, set, place),
+        Continuation::Opens(place) => enter_at(tree, table, frames, set, place, steps),
+        Continuation::Joins(place) => join(tree, table, frames, set, place, steps),
+        Continuation::PicksOn(place) => pick_on(tree, table, frames, set, place, steps),
         Continuation::TestsAgain(place) => set.insert(place),
     }
 }
 
 /// Goes on where an element of the parallel at a place is over.
 #[cycle(going_on)]
-fn join(arena: &[Node], table: &Table, frames: &mut [Frame], set: &mut Sorted, place: u32)
-    requires shaped { AreShaped (map bare_of arena.now) }
-    requires closed { IsClosed (map bare_of arena.now) 0 (length arena.now) }
-    requires distinct { AreDistinct (nodes (placed (map bare_of arena.now))) }
-    requires table { IsTable (map bare_of arena.now) table.now.rows.items }
-    requires way { (k : Onward) × IsWay (map bare_of arena.now) table.now.rows.items (row.Joins place) k }
-    requires room { length frames.old ≡ length arena.now }
-    requires unpicked { AreUnpickedIn (map bare_of arena.now) frames.old }
-    ensures moved { (k : Onward) → IsWay (map bare_of arena.now) table.now.rows.items (row.Joins place) k → HasGone (map bare_of arena.now) frames.old frames.new set.old.all set.new.all k }
+fn join<L: Ledger>(
+    tree: &Tree,
+    table: &Table,
+    frames: &mut [Frame],
+    set: &mut Sorted,
+    place: u32,
+    steps: &mut Steps<L>,
+)
+    requires shaped { AreShaped tree.now.nodes }
+    requires closed { IsClosed tree.now.nodes 0 (length tree.now.nodes) }
+    requires distinct { AreDistinct (nodes (placed tree.now.nodes)) }
+    requires table { IsTable tree.now.nodes table.now.rows.items }
+    requires way { (k : Onward) × IsWay tree.now.nodes table.now.rows.items (row.Joins place) k }
+    requires room { length frames.old ≡ length tree.now.nodes }
+    requires unpicked { AreUnpickedIn tree.now.nodes frames.old }
+    ensures moved { (k : Onward) → IsWay tree.now.nodes table.now.rows.items (row.Joins place) k → HasGone tree.now.nodes frames.old frames.new set.old.all set.new.all k }
     ensures kept { set.new.classes ≡ set.old.classes }
+    ensures looks { (k : Onward) → IsWay tree.now.nodes table.now.rows.items (row.Joins place) k → steps.new ≤ steps.old + way_looks (cells_of frames.old) k }
 {
     if count_down(frames, place) {
-        go_on(arena, table, frames, set, after_at(table, place));
+        go_on(tree, table, frames, set, after_at(table, place), steps);
     }
 }
 
 /// Goes on where an element of the non-sequential at a place is over.
 #[cycle(going_on)]
-fn pick_on(arena: &[Node], table: &Table, frames: &mut [Frame], set: &mut Sorted, place: u32)
-    requires shaped { AreShaped (map bare_of arena.now) }
-    requires closed { IsClosed (map bare_of arena.now) 0 (length arena.now) }
-    requires distinct { AreDistinct (nodes (placed (map bare_of arena.now))) }
-    requires table { IsTable (map bare_of arena.now) table.now.rows.items }
-    requires way { (k : Onward) × IsWay (map bare_of arena.now) table.now.rows.items (row.PicksOn place) k }
-    requires room { length frames.old ≡ length arena.now }
-    requires unpicked { AreUnpickedIn (map bare_of arena.now) frames.old }
-    ensures moved { (k : Onward) → IsWay (map bare_of arena.now) table.now.rows.items (row.PicksOn place) k → HasGone (map bare_of arena.now) frames.old frames.new set.old.all set.new.all k }
+fn pick_on<L: Ledger>(
+    tree: &Tree,
+    table: &Table,
+    frames: &mut [Frame],
+    set: &mut Sorted,
+    place: u32,
+    steps: &mut Steps<L>,
+)
+    requires shaped { AreShaped tree.now.nodes }
+    requires closed { IsClosed tree.now.nodes 0 (length tree.now.nodes) }
+    requires distinct { AreDistinct (nodes (placed tree.now.nodes)) }
+    requires table { IsTable tree.now.nodes table.now.rows.items }
+    requires way { (k : Onward) × IsWay tree.now.nodes table.now.rows.items (row.PicksOn place) k }
+    requires room { length frames.old ≡ length tree.now.nodes }
+    requires unpicked { AreUnpickedIn tree.now.nodes frames.old }
+    ensures moved { (k : Onward) → IsWay tree.now.nodes table.now.rows.items (row.PicksOn place) k → HasGone tree.now.nodes frames.old frames.new set.old.all set.new.all k }
     ensures kept { set.new.classes ≡ set.old.classes }
+    ensures looks { (k : Onward) → IsWay tree.now.nodes table.now.rows.items (row.PicksOn place) k → steps.new ≤ steps.old + way_looks (cells_of frames.old) k }
 {
-    if picked_by(frame_at(frames, place)) == count_at(arena, place) {
-        go_on(arena, table, frames, set, after_at(table, place));
+    if picked_by(frame_at(frames, place)) == count_at(tree, place, steps) {
+        go_on(tree, table, frames, set, after_at(table, place), steps);
     } else {
         set.insert(place);
     }

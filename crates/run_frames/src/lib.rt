@@ -3,7 +3,7 @@
 //!
 //! | module | what is in it | calls |
 //! |---|---|---|
-//! | frames | the frames of a run | `Frames`, `Question` |
+//! | frames | the frames of a run | `Frames` |
 //! | deed | what a node does next | `Deed` |
 //! | frame | what is kept of a node | |
 //! | entries | what an entry makes of its node's frame | |
@@ -11,6 +11,7 @@
 //! | entering | opening, by the table | |
 //! | going | going on where a node is over, by the table | |
 //! | nodes | the nodes of a tree by place | |
+//! | waits | the waits of a tree for each mark | |
 #![tactic(auto)]
 
 mod deed;
@@ -24,4 +25,4 @@ mod nodes;
 mod waits;
 
 pub use deed::Deed;
-pub use frames::{Frames, Question};
+pub use frames::Frames;

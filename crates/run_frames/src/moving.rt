@@ -1,16 +1,19 @@
 //! The move of frames and set by one entry, from the entry's own node on.
 
-ghost use Rattle.std.specs.Prelude.{◌≡◌, ◌<◌, ◌-◌, ◌^◌, ◌++◌, ◌∷◌, [], ℕ, List, true, map, length, if◌then◌else◌};
+ghost use Rattle.std.specs.Prelude.{◌≡◌, ◌<◌, ◌≤◌, ◌+◌, ◌-◌, ◌^◌, ◌++◌, ◌∷◌, [], ℕ, List, true, length, if◌then◌else◌};
 ghost use Rattle.exec_tree.specs.Arena.{AreShaped, IsClosed};
 ghost use Rattle.exec_tree.specs.declared.kind.Kind.TheVariants as kinds;
-ghost use Rattle.exec_tree.specs.Said.{bare_of};
 ghost use Rattle.exec_tree.specs.Exec.{nodes, has, AreDistinct};
 ghost use Rattle.place_set.specs.Words.{holds};
 ghost use Rattle.run_log.specs.declared.entry.Entry.{Entry};
+ghost use Rattle.frame_law.specs.Executable.{executable_at};
+ghost use Rattle.frame_law.specs.Looks.{element_looks, looks, node_looks, way_looks};
+ghost use Rattle.frame_law.specs.Onward.{Done, onward};
 ghost use Rattle.tree_table.specs.Placed.{placed, placed_down};
 ghost use Rattle.tree_table.specs.Rows.{levels_at};
 ghost use Rattle.tree_table.specs.Table.{IsElement, IsTable};
 ghost use Rattle.run_frames.specs.Entered.{AreUnpickedIn, IsNode};
+ghost use Rattle.run_frames.specs.Frames.{cells_of};
 ghost use Rattle.run_frames.specs.Renaming.{entry_at};
 ghost use Rattle.run_frames.specs.Held.{IsHeld, IsStep, IsLeafKind, HasClosed, HasTried};
 
@@ -18,56 +21,68 @@ use crate::entering::enter_at;
 use crate::entries::{answer_in, cut, ends};
 use crate::frame::{Frame, frame_at, picked_by};
 use crate::going::{after_at, go_on};
-use crate::nodes::{element_at, node_at};
-use exec_tree::{Kind, Node};
+use crate::nodes::element_at;
+use exec_tree::{Kind, Tree};
+use nc_base::Steps;
 use place_classes::Sorted;
 use run_log::Entry;
-use tree_table::Table;
+use std::sync::ledger::Ledger;
+use tree_table::{Table, look_at};
 
 /// The node at a place is over: it goes out, and the run goes on as its row says.
-fn close(arena: &[Node], table: &Table, frames: &mut [Frame], set: &mut Sorted, place: u32)
-    requires shaped { AreShaped (map bare_of arena.now) }
-    requires closed { IsClosed (map bare_of arena.now) 0 (length arena.now) }
-    requires distinct { AreDistinct (nodes (placed (map bare_of arena.now))) }
-    requires table { IsTable (map bare_of arena.now) table.now.rows.items }
-    requires inside { has (nodes (placed (map bare_of arena.now))) place ≡ true }
-    requires within { place < length arena.now }
+fn close<L: Ledger>(
+    tree: &Tree,
+    table: &Table,
+    frames: &mut [Frame],
+    set: &mut Sorted,
+    place: u32,
+    steps: &mut Steps<L>,
+)
+    requires shaped { AreShaped tree.now.nodes }
+    requires closed { IsClosed tree.now.nodes 0 (length tree.now.nodes) }
+    requires distinct { AreDistinct (nodes (placed tree.now.nodes)) }
+    requires table { IsTable tree.now.nodes table.now.rows.items }
+    requires inside { has (nodes (placed tree.now.nodes)) place ≡ true }
+    requires within { place < length tree.now.nodes }
     requires there { holds set.old.all place ≡ true }
-    requires room { length frames.old ≡ length arena.now }
-    requires unpicked { AreUnpickedIn (map bare_of arena.now) frames.old }
-    ensures moved { HasClosed (map bare_of arena.now) frames.old frames.new set.old.all set.new.all place }
+    requires room { length frames.old ≡ length tree.now.nodes }
+    requires unpicked { AreUnpickedIn tree.now.nodes frames.old }
+    ensures moved { HasClosed tree.now.nodes frames.old frames.new set.old.all set.new.all place }
     ensures kept { set.new.classes ≡ set.old.classes }
+    ensures looks { steps.new ≤ steps.old + way_looks (cells_of frames.old) (onward (placed tree.now.nodes) Done place) }
 {
     set.remove(place);
-    go_on(arena, table, frames, set, after_at(table, place));
+    go_on(tree, table, frames, set, after_at(table, place), steps);
 }
 
 /// An element of the node at a place is opened in the node's stead, where the element has something to do: whether it has.
-fn open_instead(
-    arena: &[Node],
+fn open_instead<L: Ledger>(
+    tree: &Tree,
     table: &Table,
     frames: &mut [Frame],
     set: &mut Sorted,
     place: u32,
     element: u32,
+    steps: &mut Steps<L>,
 ) -> bool
-    requires shaped { AreShaped (map bare_of arena.now) }
-    requires closed { IsClosed (map bare_of arena.now) 0 (length arena.now) }
-    requires distinct { AreDistinct (nodes (placed (map bare_of arena.now))) }
-    requires table { IsTable (map bare_of arena.now) table.now.rows.items }
-    requires inside { has (nodes (placed (map bare_of arena.now))) place ≡ true }
-    requires within { place < length arena.now }
-    requires element { IsElement (map bare_of arena.now) place element }
+    requires shaped { AreShaped tree.now.nodes }
+    requires closed { IsClosed tree.now.nodes 0 (length tree.now.nodes) }
+    requires distinct { AreDistinct (nodes (placed tree.now.nodes)) }
+    requires table { IsTable tree.now.nodes table.now.rows.items }
+    requires inside { has (nodes (placed tree.now.nodes)) place ≡ true }
+    requires within { place < length tree.now.nodes }
+    requires element { IsElement tree.now.nodes place element }
     requires there { holds set.old.all place ≡ true }
-    requires room { length frames.old ≡ length arena.now }
-    requires unpicked { AreUnpickedIn (map bare_of arena.now) frames.old }
-    ensures moved { HasTried (map bare_of arena.now) frames.old frames.new set.old.all set.new.all place (placed_down (map bare_of arena.now) (levels_at table.now.rows.items place - 1) element) result }
+    requires room { length frames.old ≡ length tree.now.nodes }
+    requires unpicked { AreUnpickedIn tree.now.nodes frames.old }
+    ensures moved { HasTried tree.now.nodes frames.old frames.new set.old.all set.new.all place (placed_down tree.now.nodes (levels_at table.now.rows.items place - 1) element) result }
     ensures kept { set.new.classes ≡ set.old.classes }
+    ensures looks { steps.new ≤ steps.old + element_looks (placed_down tree.now.nodes (levels_at table.now.rows.items place - 1) element) 0 }
 {
-    match table.element_into(arena, place, element) {
+    match table.element_into(tree, place, element, steps) {
         Some(into) => {
             set.remove(place);
-            enter_at(arena, table, frames, set, into);
+            enter_at(tree, table, frames, set, into, steps);
             true
         }
         None => false,
@@ -75,81 +90,103 @@ fn open_instead(
 }
 
 /// A workingstep is dispatched, makes a block, or ends.
-fn move_step(
-    arena: &[Node],
+fn move_step<L: Ledger>(
+    tree: &Tree,
     table: &Table,
     frames: &mut [Frame],
     set: &mut Sorted,
     place: u32,
     elements: &[u32],
     entry: &Entry,
+    steps: &mut Steps<L>,
 )
-    requires shaped { AreShaped (map bare_of arena.now) }
-    requires closed { IsClosed (map bare_of arena.now) 0 (length arena.now) }
-    requires distinct { AreDistinct (nodes (placed (map bare_of arena.now))) }
-    requires table { IsTable (map bare_of arena.now) table.now.rows.items }
-    requires node { IsNode (map bare_of arena.now) place kinds.Work elements.now }
-    requires moves { (t : List Entry) × IsStep (map bare_of arena.now) frames.old set.old.all t place entry.now }
-    ensures moved { (t : List Entry) → IsStep (map bare_of arena.now) frames.old set.old.all t place entry.now → IsHeld (map bare_of arena.now) frames.new set.new.all (t ++ entry_at place entry.now ∷ []) }
+    requires shaped { AreShaped tree.now.nodes }
+    requires closed { IsClosed tree.now.nodes 0 (length tree.now.nodes) }
+    requires distinct { AreDistinct (nodes (placed tree.now.nodes)) }
+    requires table { IsTable tree.now.nodes table.now.rows.items }
+    requires node { IsNode tree.now.nodes place kinds.Work elements.now }
+    requires moves { (t : List Entry) × IsStep tree.now.nodes frames.old set.old.all t place entry.now }
+    ensures moved { (t : List Entry) → IsStep tree.now.nodes frames.old set.old.all t place entry.now → IsHeld tree.now.nodes frames.new set.new.all (t ++ entry_at place entry.now ∷ []) }
     ensures kept { set.new.classes ≡ set.old.classes }
+    ensures looks { (t : List Entry) → IsStep tree.now.nodes frames.old set.old.all t place entry.now → steps.new ≤ steps.old + node_looks (cells_of frames.old) (executable_at (placed tree.now.nodes) place) (entry_at place entry.now) (onward (placed tree.now.nodes) Done place) }
 {
     frames[place as usize] = cut(entry);
     if ends(entry) {
-        close(arena, table, frames, set, place);
+        close(tree, table, frames, set, place, steps);
     }
 }
 
 /// The next element of a non-sequential is picked.
-fn move_picks(
-    arena: &[Node],
+fn move_picks<L: Ledger>(
+    tree: &Tree,
     table: &Table,
     frames: &mut [Frame],
     set: &mut Sorted,
     place: u32,
     elements: &[u32],
     entry: &Entry,
+    steps: &mut Steps<L>,
 )
-    requires shaped { AreShaped (map bare_of arena.now) }
-    requires closed { IsClosed (map bare_of arena.now) 0 (length arena.now) }
-    requires distinct { AreDistinct (nodes (placed (map bare_of arena.now))) }
-    requires table { IsTable (map bare_of arena.now) table.now.rows.items }
-    requires node { IsNode (map bare_of arena.now) place kinds.NonSeq elements.now }
-    requires moves { (t : List Entry) × IsStep (map bare_of arena.now) frames.old set.old.all t place entry.now }
-    ensures moved { (t : List Entry) → IsStep (map bare_of arena.now) frames.old set.old.all t place entry.now → IsHeld (map bare_of arena.now) frames.new set.new.all (t ++ entry_at place entry.now ∷ []) }
+    requires shaped { AreShaped tree.now.nodes }
+    requires closed { IsClosed tree.now.nodes 0 (length tree.now.nodes) }
+    requires distinct { AreDistinct (nodes (placed tree.now.nodes)) }
+    requires table { IsTable tree.now.nodes table.now.rows.items }
+    requires node { IsNode tree.now.nodes place kinds.NonSeq elements.now }
+    requires moves { (t : List Entry) × IsStep tree.now.nodes frames.old set.old.all t place entry.now }
+    ensures moved { (t : List Entry) → IsStep tree.now.nodes frames.old set.old.all t place entry.now → IsHeld tree.now.nodes frames.new set.new.all (t ++ entry_at place entry.now ∷ []) }
     ensures kept { set.new.classes ≡ set.old.classes }
+    ensures looks { (t : List Entry) → IsStep tree.now.nodes frames.old set.old.all t place entry.now → steps.new ≤ steps.old + node_looks (cells_of frames.old) (executable_at (placed tree.now.nodes) place) (entry_at place entry.now) (onward (placed tree.now.nodes) Done place) }
 {
     let k = next_index(picked_by(frame_at(frames, place)), elements.len());
     frames[place as usize] = Frame::PickedFirst(k + 1);
-    if open_instead(arena, table, frames, set, place, element_at(elements, k)) {
+    if open_instead(
+        tree,
+        table,
+        frames,
+        set,
+        place,
+        element_at(elements, k),
+        steps,
+    ) {
         return;
     }
     if k + 1 == elements.len() {
-        close(arena, table, frames, set, place);
+        close(tree, table, frames, set, place, steps);
     }
 }
 
 /// The first element of a selective is picked.
-fn move_choice(
-    arena: &[Node],
+fn move_choice<L: Ledger>(
+    tree: &Tree,
     table: &Table,
     frames: &mut [Frame],
     set: &mut Sorted,
     place: u32,
     elements: &[u32],
     entry: &Entry,
+    steps: &mut Steps<L>,
 )
-    requires shaped { AreShaped (map bare_of arena.now) }
-    requires closed { IsClosed (map bare_of arena.now) 0 (length arena.now) }
-    requires distinct { AreDistinct (nodes (placed (map bare_of arena.now))) }
-    requires table { IsTable (map bare_of arena.now) table.now.rows.items }
-    requires node { IsNode (map bare_of arena.now) place kinds.Sel elements.now }
-    requires moves { (t : List Entry) × IsStep (map bare_of arena.now) frames.old set.old.all t place entry.now }
-    ensures moved { (t : List Entry) → IsStep (map bare_of arena.now) frames.old set.old.all t place entry.now → IsHeld (map bare_of arena.now) frames.new set.new.all (t ++ entry_at place entry.now ∷ []) }
+    requires shaped { AreShaped tree.now.nodes }
+    requires closed { IsClosed tree.now.nodes 0 (length tree.now.nodes) }
+    requires distinct { AreDistinct (nodes (placed tree.now.nodes)) }
+    requires table { IsTable tree.now.nodes table.now.rows.items }
+    requires node { IsNode tree.now.nodes place kinds.Sel elements.now }
+    requires moves { (t : List Entry) × IsStep tree.now.nodes frames.old set.old.all t place entry.now }
+    ensures moved { (t : List Entry) → IsStep tree.now.nodes frames.old set.old.all t place entry.now → IsHeld tree.now.nodes frames.new set.new.all (t ++ entry_at place entry.now ∷ []) }
     ensures kept { set.new.classes ≡ set.old.classes }
+    ensures looks { (t : List Entry) → IsStep tree.now.nodes frames.old set.old.all t place entry.now → steps.new ≤ steps.old + node_looks (cells_of frames.old) (executable_at (placed tree.now.nodes) place) (entry_at place entry.now) (onward (placed tree.now.nodes) Done place) }
 {
     frames[place as usize] = Frame::PickedFirst(1);
-    if !open_instead(arena, table, frames, set, place, element_at(elements, 0)) {
-        close(arena, table, frames, set, place);
+    if !open_instead(
+        tree,
+        table,
+        frames,
+        set,
+        place,
+        element_at(elements, 0),
+        steps,
+    ) {
+        close(tree, table, frames, set, place, steps);
     }
 }
 
@@ -161,113 +198,129 @@ fn branch_index(answer: bool) -> usize
 }
 
 /// An if is tested.
-fn move_branch(
-    arena: &[Node],
+fn move_branch<L: Ledger>(
+    tree: &Tree,
     table: &Table,
     frames: &mut [Frame],
     set: &mut Sorted,
     place: u32,
     elements: &[u32],
     entry: &Entry,
+    steps: &mut Steps<L>,
 )
-    requires shaped { AreShaped (map bare_of arena.now) }
-    requires closed { IsClosed (map bare_of arena.now) 0 (length arena.now) }
-    requires distinct { AreDistinct (nodes (placed (map bare_of arena.now))) }
-    requires table { IsTable (map bare_of arena.now) table.now.rows.items }
-    requires node { IsNode (map bare_of arena.now) place kinds.If elements.now }
-    requires moves { (t : List Entry) × IsStep (map bare_of arena.now) frames.old set.old.all t place entry.now }
-    ensures moved { (t : List Entry) → IsStep (map bare_of arena.now) frames.old set.old.all t place entry.now → IsHeld (map bare_of arena.now) frames.new set.new.all (t ++ entry_at place entry.now ∷ []) }
+    requires shaped { AreShaped tree.now.nodes }
+    requires closed { IsClosed tree.now.nodes 0 (length tree.now.nodes) }
+    requires distinct { AreDistinct (nodes (placed tree.now.nodes)) }
+    requires table { IsTable tree.now.nodes table.now.rows.items }
+    requires node { IsNode tree.now.nodes place kinds.If elements.now }
+    requires moves { (t : List Entry) × IsStep tree.now.nodes frames.old set.old.all t place entry.now }
+    ensures moved { (t : List Entry) → IsStep tree.now.nodes frames.old set.old.all t place entry.now → IsHeld tree.now.nodes frames.new set.new.all (t ++ entry_at place entry.now ∷ []) }
     ensures kept { set.new.classes ≡ set.old.classes }
+    ensures looks { (t : List Entry) → IsStep tree.now.nodes frames.old set.old.all t place entry.now → steps.new ≤ steps.old + node_looks (cells_of frames.old) (executable_at (placed tree.now.nodes) place) (entry_at place entry.now) (onward (placed tree.now.nodes) Done place) }
 {
     let answer = answer_in(entry);
     frames[place as usize] = Frame::Answered(answer);
     let element = element_at(elements, branch_index(answer));
-    if !open_instead(arena, table, frames, set, place, element) {
-        close(arena, table, frames, set, place);
+    if !open_instead(tree, table, frames, set, place, element, steps) {
+        close(tree, table, frames, set, place, steps);
     }
 }
 
 /// A while is tested: for a yes its body is opened, and tests again where that has nothing to do.
-fn move_turn(
-    arena: &[Node],
+fn move_turn<L: Ledger>(
+    tree: &Tree,
     table: &Table,
     frames: &mut [Frame],
     set: &mut Sorted,
     place: u32,
     elements: &[u32],
     entry: &Entry,
+    steps: &mut Steps<L>,
 )
-    requires shaped { AreShaped (map bare_of arena.now) }
-    requires closed { IsClosed (map bare_of arena.now) 0 (length arena.now) }
-    requires distinct { AreDistinct (nodes (placed (map bare_of arena.now))) }
-    requires table { IsTable (map bare_of arena.now) table.now.rows.items }
-    requires node { IsNode (map bare_of arena.now) place kinds.While elements.now }
-    requires moves { (t : List Entry) × IsStep (map bare_of arena.now) frames.old set.old.all t place entry.now }
-    ensures moved { (t : List Entry) → IsStep (map bare_of arena.now) frames.old set.old.all t place entry.now → IsHeld (map bare_of arena.now) frames.new set.new.all (t ++ entry_at place entry.now ∷ []) }
+    requires shaped { AreShaped tree.now.nodes }
+    requires closed { IsClosed tree.now.nodes 0 (length tree.now.nodes) }
+    requires distinct { AreDistinct (nodes (placed tree.now.nodes)) }
+    requires table { IsTable tree.now.nodes table.now.rows.items }
+    requires node { IsNode tree.now.nodes place kinds.While elements.now }
+    requires moves { (t : List Entry) × IsStep tree.now.nodes frames.old set.old.all t place entry.now }
+    ensures moved { (t : List Entry) → IsStep tree.now.nodes frames.old set.old.all t place entry.now → IsHeld tree.now.nodes frames.new set.new.all (t ++ entry_at place entry.now ∷ []) }
     ensures kept { set.new.classes ≡ set.old.classes }
+    ensures looks { (t : List Entry) → IsStep tree.now.nodes frames.old set.old.all t place entry.now → steps.new ≤ steps.old + node_looks (cells_of frames.old) (executable_at (placed tree.now.nodes) place) (entry_at place entry.now) (onward (placed tree.now.nodes) Done place) }
 {
     let answer = answer_in(entry);
     frames[place as usize] = Frame::Answered(answer);
     if answer {
-        open_instead(arena, table, frames, set, place, element_at(elements, 0));
+        open_instead(
+            tree,
+            table,
+            frames,
+            set,
+            place,
+            element_at(elements, 0),
+            steps,
+        );
     } else {
-        close(arena, table, frames, set, place);
+        close(tree, table, frames, set, place, steps);
     }
 }
 
 /// A leaf does what it does, and is over.
-fn move_leaf(
-    arena: &[Node],
+fn move_leaf<L: Ledger>(
+    tree: &Tree,
     table: &Table,
     frames: &mut [Frame],
     set: &mut Sorted,
     place: u32,
     kind: Kind,
     entry: &Entry,
+    steps: &mut Steps<L>,
 )
-    requires shaped { AreShaped (map bare_of arena.now) }
-    requires closed { IsClosed (map bare_of arena.now) 0 (length arena.now) }
-    requires distinct { AreDistinct (nodes (placed (map bare_of arena.now))) }
-    requires table { IsTable (map bare_of arena.now) table.now.rows.items }
-    requires node { (elements : List ℕ) × IsNode (map bare_of arena.now) place kind elements }
+    requires shaped { AreShaped tree.now.nodes }
+    requires closed { IsClosed tree.now.nodes 0 (length tree.now.nodes) }
+    requires distinct { AreDistinct (nodes (placed tree.now.nodes)) }
+    requires table { IsTable tree.now.nodes table.now.rows.items }
+    requires node { (elements : List ℕ) × IsNode tree.now.nodes place kind elements }
     requires leaf { IsLeafKind kind }
-    requires moves { (t : List Entry) × IsStep (map bare_of arena.now) frames.old set.old.all t place entry.now }
-    ensures moved { (t : List Entry) → IsStep (map bare_of arena.now) frames.old set.old.all t place entry.now → IsHeld (map bare_of arena.now) frames.new set.new.all (t ++ entry_at place entry.now ∷ []) }
+    requires moves { (t : List Entry) × IsStep tree.now.nodes frames.old set.old.all t place entry.now }
+    ensures moved { (t : List Entry) → IsStep tree.now.nodes frames.old set.old.all t place entry.now → IsHeld tree.now.nodes frames.new set.new.all (t ++ entry_at place entry.now ∷ []) }
     ensures kept { set.new.classes ≡ set.old.classes }
+    ensures looks { (t : List Entry) → IsStep tree.now.nodes frames.old set.old.all t place entry.now → steps.new ≤ steps.old + node_looks (cells_of frames.old) (executable_at (placed tree.now.nodes) place) (entry_at place entry.now) (onward (placed tree.now.nodes) Done place) }
 {
     frames[place as usize] = Frame::Over;
-    close(arena, table, frames, set, place);
+    close(tree, table, frames, set, place, steps);
 }
 
-/// Moves frames and set by an entry of the node at a place.
-pub fn move_at(
-    arena: &[Node],
+/// Moves frames and set by an entry of the node at a place. Each look at a node counts one step.
+pub fn move_at<L: Ledger>(
+    tree: &Tree,
     table: &Table,
     frames: &mut [Frame],
     set: &mut Sorted,
     place: u32,
     entry: &Entry,
+    steps: &mut Steps<L>,
 )
-    requires shaped { AreShaped (map bare_of arena.now) }
-    requires closed { IsClosed (map bare_of arena.now) 0 (length arena.now) }
-    requires distinct { AreDistinct (nodes (placed (map bare_of arena.now))) }
-    requires table { IsTable (map bare_of arena.now) table.now.rows.items }
-    requires moves { (t : List Entry) × IsStep (map bare_of arena.now) frames.old set.old.all t place entry.now }
-    ensures moved { (t : List Entry) → IsStep (map bare_of arena.now) frames.old set.old.all t place entry.now → IsHeld (map bare_of arena.now) frames.new set.new.all (t ++ entry_at place entry.now ∷ []) }
+    requires shaped { AreShaped tree.now.nodes }
+    requires closed { IsClosed tree.now.nodes 0 (length tree.now.nodes) }
+    requires distinct { AreDistinct (nodes (placed tree.now.nodes)) }
+    requires table { IsTable tree.now.nodes table.now.rows.items }
+    requires moves { (t : List Entry) × IsStep tree.now.nodes frames.old set.old.all t place entry.now }
+    ensures moved { (t : List Entry) → IsStep tree.now.nodes frames.old set.old.all t place entry.now → IsHeld tree.now.nodes frames.new set.new.all (t ++ entry_at place entry.now ∷ []) }
     ensures kept { set.new.classes ≡ set.old.classes }
+    ensures looks { (t : List Entry) → IsStep tree.now.nodes frames.old set.old.all t place entry.now → steps.new ≤ steps.old + looks (cells_of frames.old) (placed tree.now.nodes) (entry_at place entry.now) place }
 {
-    let Some(node) = node_at(arena, place) else {
+    let Some(node) = look_at(tree, place, steps) else {
         return;
     };
     let elements = node.elements.as_slice();
     match node.kind.kind() {
         Kind::Plan | Kind::Par => {}
-        Kind::NonSeq => move_picks(arena, table, frames, set, place, elements, entry),
-        Kind::Sel => move_choice(arena, table, frames, set, place, elements, entry),
-        Kind::If => move_branch(arena, table, frames, set, place, elements, entry),
-        Kind::While => move_turn(arena, table, frames, set, place, elements, entry),
-        Kind::Work => move_step(arena, table, frames, set, place, elements, entry),
-        kind => move_leaf(arena, table, frames, set, place, kind, entry),
+        Kind::NonSeq => move_picks(tree, table, frames, set, place, elements, entry, steps),
+        Kind::Sel => move_choice(tree, table, frames, set, place, elements, entry, steps),
+        Kind::If => move_branch(tree, table, frames, set, place, elements, entry, steps),
+        Kind::While => move_turn(tree, table, frames, set, place, elements, entry, steps),
+        Kind::Work => move_step(tree, table, frames, set, place, elements, entry, steps),
+        kind => move_leaf(tree, table, frames, set, place, kind, entry, steps),
     }
 }
 

@@ -7,4 +7,5 @@ pub mod LeadLemmas
 pub mod TellLemmas
 pub mod TableLemmas
 pub mod OpenLemmas
+pub mod FindLemmas
 pub mod OnwardLemmas

@@ -42,6 +42,14 @@ seen_none arena place found e f = sym e ∙ ap (option_map bare_of) f
 pub seen_some : (arena : List Node) (place : ℕ) (found : Option Node) (node : Node) → option_map bare_of found ≡ slice_get (map bare_of arena) place → found ≡ Some node → slice_get (map bare_of arena) place ≡ Some (bare_of node)
 seen_some arena place found node e f = sym e ∙ ap (option_map bare_of) f
 
+-- ---- what `look_at` gives
+
+pub look_none : (arena : List BareNode) (place : ℕ) (found : Option Node) → option_map bare_of found ≡ slice_get arena place → found ≡ None → slice_get arena place ≡ None
+look_none arena place found e f = sym e ∙ ap (option_map bare_of) f
+
+pub look_some : (arena : List BareNode) (place : ℕ) (found : Option Node) (node : Node) → option_map bare_of found ≡ slice_get arena place → found ≡ Some node → slice_get arena place ≡ Some (bare_of node)
+look_some arena place found node e f = sym e ∙ ap (option_map bare_of) f
+
 -- ---- the elements
 
 pub count_is : (arena : List BareNode) (levels : ℕ) (places : List ℕ) → count (to_execs (placed_all arena levels places)) ≡ length places

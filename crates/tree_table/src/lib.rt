@@ -9,7 +9,7 @@
 //! | leading | the pass from the leaves up: where opening leads | |
 //! | telling | the pass from the root down: where the run goes on | |
 //! | opening | opening, by a table | |
-//! | nodes | the nodes of a tree by place | |
+//! | nodes | the nodes of a tree by place | `look_at` |
 #![tactic(auto)]
 
 pub mod laws;
@@ -20,5 +20,6 @@ mod row;
 mod table;
 mod telling;
 
+pub use nodes::look_at;
 pub use row::{Continuation, Row};
 pub use table::Table;

@@ -1,9 +1,10 @@
 //! The table of a tree.
 
-ghost use Rattle.std.specs.Prelude.{◌≡◌, ◌≤◌, ◌-◌, ◌||◌, [], ℕ, true, map, length, IfOk};
+ghost use Rattle.std.specs.Prelude.{◌≡◌, ◌≤◌, ◌+◌, ◌-◌, ◌||◌, [], ℕ, true, map, length, IfOk};
 ghost use Rattle.exec_tree.specs.Arena.{AreShaped, IsClosed};
 ghost use Rattle.exec_tree.specs.Exec.{nodes, has, AreDistinct};
 ghost use Rattle.exec_tree.specs.Said.{bare_of};
+ghost use Rattle.frame_law.specs.Looks.{finding};
 ghost use Rattle.place_set.specs.declared.set.TheConstants.{MAX_PLACES};
 ghost use Rattle.place_set.specs.Words.{holds};
 ghost use Rattle.trace_law.specs.Next.{next};
@@ -16,9 +17,10 @@ use crate::opening::{lead_at, levels_at, open_at, open_whole};
 use crate::row::{Continuation, Row};
 use crate::telling::tell_down;
 use exec_tree::{MAX_TREE_NESTING, Node, Tree};
-use nc_base::NoMemory;
+use nc_base::{NoMemory, Steps};
 use place_set::{MAX_PLACES, PlaceSet};
 use std::alloc::Global;
+use std::sync::ledger::Ledger;
 use trace_law::laws::leads_opens;
 
 /// The table of a tree: a row for each node, by place. What it tells of the tree is said by `IsTable`.
@@ -82,50 +84,62 @@ impl Table {
         self.rows.as_slice()
     }
 
-    /// The place to which opening the tree leads, none where the tree has nothing to do.
-    pub fn tree_into(&self, arena: &[Node]) -> Option<u32>
-        requires { IsTable (map bare_of arena.now) self.now.rows.items }
-        ensures { LeadsTo (map bare_of arena.now) self.now.rows.items (placed (map bare_of arena.now)) result }
+    /// The place to which opening the tree leads, none where the tree has nothing to do. Each look at a node
+    /// counts one step.
+    pub fn tree_into<L: Ledger>(&self, tree: &Tree, steps: &mut Steps<L>) -> Option<u32>
+        requires { IsTable tree.now.nodes self.now.rows.items }
+        ensures leads { LeadsTo tree.now.nodes self.now.rows.items (placed tree.now.nodes) result }
+        ensures looks { steps.new ≤ steps.old + finding (placed tree.now.nodes) }
     {
         leads_opens();
-        lead_at(arena, self.rows.as_slice(), MAX_TREE_NESTING, 0)
+        lead_at(tree, self.rows.as_slice(), MAX_TREE_NESTING, 0, steps)
     }
 
     /// The place to which opening an element of the node at a place leads, none where the element has nothing to do.
-    pub fn element_into(&self, arena: &[Node], place: u32, element: u32) -> Option<u32>
-        requires shaped { AreShaped (map bare_of arena.now) }
-        requires table { IsTable (map bare_of arena.now) self.now.rows.items }
-        requires inside { has (nodes (placed (map bare_of arena.now))) place ≡ true }
-        requires element { IsElement (map bare_of arena.now) place element }
-        ensures { LeadsTo (map bare_of arena.now) self.now.rows.items (placed_down (map bare_of arena.now) (levels_at self.now.rows.items place - 1) element) result }
+    /// Each look at a node counts one step: one where the element has a number.
+    pub fn element_into<L: Ledger>(
+        &self,
+        tree: &Tree,
+        place: u32,
+        element: u32,
+        steps: &mut Steps<L>,
+    ) -> Option<u32>
+        requires shaped { AreShaped tree.now.nodes }
+        requires table { IsTable tree.now.nodes self.now.rows.items }
+        requires inside { has (nodes (placed tree.now.nodes)) place ≡ true }
+        requires element { IsElement tree.now.nodes place element }
+        ensures leads { LeadsTo tree.now.nodes self.now.rows.items (placed_down tree.now.nodes (levels_at self.now.rows.items place - 1) element) result }
+        ensures looks { steps.new ≤ steps.old + finding (placed_down tree.now.nodes (levels_at self.now.rows.items place - 1) element) }
     {
         leads_opens();
         let rows = self.rows.as_slice();
         lead_at(
-            arena,
+            tree,
             rows,
             levels_at(rows, place).saturating_sub(1),
             element,
+            steps,
         )
     }
 
     /// Opens the executable at a place to which opening leads: puts into the set where a run of it can go on before any entry. A parallel
-    /// opens what its elements lead to, and each other executable goes on at itself.
-    pub fn open(&self, arena: &[Node], set: &mut PlaceSet, place: u32)
-        requires shaped { AreShaped (map bare_of arena.now) }
-        requires closed { IsClosed (map bare_of arena.now) 0 (length arena.now) }
-        requires table { IsTable (map bare_of arena.now) self.now.rows.items }
-        requires entrance { IsEntrance (map bare_of arena.now) self.now.rows.items place }
-        ensures { (q : ℕ) → holds set.new q ≡ (holds set.old q || has (next (executable_at (map bare_of arena.now) self.now.rows.items place) []) q) }
+    /// opens what its elements lead to, and each other executable goes on at itself. Each look at a node counts one step.
+    pub fn open<L: Ledger>(&self, tree: &Tree, set: &mut PlaceSet, place: u32, steps: &mut Steps<L>)
+        requires shaped { AreShaped tree.now.nodes }
+        requires closed { IsClosed tree.now.nodes 0 (length tree.now.nodes) }
+        requires table { IsTable tree.now.nodes self.now.rows.items }
+        requires entrance { IsEntrance tree.now.nodes self.now.rows.items place }
+        ensures { (q : ℕ) → holds set.new q ≡ (holds set.old q || has (next (executable_at tree.now.nodes self.now.rows.items place) []) q) }
     {
-        open_at(arena, self.rows.as_slice(), set, place);
+        open_at(tree, self.rows.as_slice(), set, place, steps);
     }
 
-    /// Opens the tree: puts into the set where a run can go on before any entry.
-    pub fn open_tree(&self, tree: &Tree, set: &mut PlaceSet)
+    /// Opens the tree: puts into the set where a run can go on before any entry. Each look at a node counts one step.
+    pub fn open_tree<L: Ledger>(&self, tree: &Tree, set: &mut PlaceSet, steps: &mut Steps<L>)
         requires { IsTable tree.now.nodes self.now.rows.items }
         ensures { (q : ℕ) → holds set.new q ≡ (holds set.old q || has (next (placed tree.now.nodes) []) q) }
     {
-        open_whole(tree.nodes(), self.rows.as_slice(), set);
+        tree.nodes();
+        open_whole(tree, self.rows.as_slice(), set, steps);
     }
 }

@@ -2,11 +2,10 @@ use Rattle.std.proofs.Common.{◌≡◌, ◌∙◌, sym, ap, subst, ℕ, List, [
 use Rattle.run_log.specs.declared.entry.Entry.{Entry}
 use Rattle.run_law.specs.Replay.{has_ended, turns_of, rounds}
 use Rattle.project_law.specs.ProjectRules.{rules_of, channel_numbers, upto}
-use Rattle.project_law.specs.Run.{IsRun}
 use Rattle.run_core.proofs.replaying.run.Goals as goal
 
-pub ending-ending-requires : goal.ending-ending-requires
-ending-ending-requires g c =
+pub ending-requires : goal.ending-requires
+ending-requires g c =
     let p = g.N.RunName.project in
     let s = g.N.RunName.script in
     let r = rules_of p s in
@@ -18,11 +17,3 @@ ending-ending-requires g c =
     c.in_ok-rounds.ensures ∙ (ap (λ (cs : List ℕ). rounds r limit cs limit c.turns.new.core.0) channels ∙ ap (rounds r limit (channel_numbers p) limit) scheduled) in
     subst (λ (t : List Entry). has_ended r limit t ≡ true) (sym all)
     (c.replay_ends.ensures.ended r (channel_numbers p) c.args.schedule.now limit 0 c.legal.ensures.sound (c.project_rules_are_sound.ensures.channels p s) (c.project_rules_are_sound.ensures.first p))
-
-pub returns-clause-run : goal.returns-clause-run
-returns-clause-run g c =
-    let p = g.N.RunName.project in
-    let s = g.N.RunName.script in
-    let limit = g.N.RunName.limit in
-    let same : c.in_ok-log_of.field-0 ≡ c.rounds.new.core.0 = c.in_ok-log_of.ensures ∙ c.log.ensures in
-    subst (λ (t : List Entry). IsRun p s limit t c.ending-ending.result) (sym same) (record { legal = c.legal.ensures.legal; ends = c.ending-ending.ensures; within = c.legal.ensures.within })

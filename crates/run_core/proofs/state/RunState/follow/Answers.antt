@@ -1,14 +1,15 @@
-use Rattle.std.proofs.Common.{◌≡◌, ◌∙◌, ◌<◌, subst, sym, ap, ℕ, [], ◌∷◌, ◌++◌, List, true, length}
+use Rattle.std.proofs.Common.{◌≡◌, ◌∙◌, ◌<◌, ◌≤◌, ◌+◌, ◌*◌, subst, sym, ap, ℕ, [], ◌∷◌, ◌++◌, List, true, length, arith}
 use Rattle.std.specs.Prelude.{Option, Some, None, IfSome, Bool, if◌then◌else◌, max}
-use Rattle.std.specs.Option.{option_map_or, option_to_list}
+use Rattle.std.specs.Option.{option_to_list}
 use Rattle.project_store.specs.Entities.{entity_at}
 use Rattle.exec_tree.specs.Exec.{Exec, has}
 use Rattle.exec_tree.specs.Exec as exec
 use Rattle.exec_tree.specs.Executable.{kind_at}
-use Rattle.exec_tree.specs.Said.{said_for}
+use Rattle.exec_tree.specs.Said.{said_for, said_by, bare_of}
+use Rattle.exec_tree.specs.Walked.{place_from}
 use Rattle.exec_tree.specs.TreeFault.{nothing_seen}
 use Rattle.exec_tree.specs.TreeOf.{tree_of}
-use Rattle.exec_tree.specs.Built.{main_of, channel_in, channel_from}
+use Rattle.exec_tree.specs.Built.{main_of, channel_in, channel_from, said_in}
 use Rattle.exec_tree.specs.declared.limits.TheConstants.{MAX_CHANNELS}
 use Rattle.trace_law.specs.Of.{number_of, has_some}
 use Rattle.trace_law.specs.Part.{Part}
@@ -26,26 +27,50 @@ use Rattle.run_core.specs.Edits.{AreKept}
 use Rattle.run_core.proofs.QuestionLemmas.{filter_has}
 use Rattle.run_core.proofs.KindLemmas.{store_done_by, works_has}
 use Rattle.run_core.proofs.FollowLemmas.{is_of_node, IsOfNode}
-use Rattle.run_core.proofs.ReadyLemmas.{mark_there}
+use Rattle.run_core.proofs.ReadyLemmas.{within_limit}
+use Rattle.run_core.proofs.PlaceLemmas.{within, channel_there, said_there, marked_place, of_number, for_number}
+use Rattle.frame_law.specs.ComeTo.{nesting, new_in}
+use Rattle.frame_law.specs.Looks.{AreNumbered}
 use Rattle.trace_law.specs.Offer.{offer, IsOffered}
 use Rattle.run_core.proofs.EditLemmas.{step_has_version}
-use Rattle.run_core.proofs.StateLemmas.{started_kind, Entered, state_follows, follows_is, channel_small}
+use Rattle.run_core.proofs.StateLemmas.{started_kind, Entered, state_follows, follows_is}
 use Rattle.run_core.proofs.state.RunState.follow.Goals as goal
 
-pub follow-requires : goal.follow-requires
-follow-requires c =
+pub node-node-requires : goal.node-node-requires
+node-node-requires g c =
     let p = c.self.inside.store in
     let s = c.self.inside.edits.script in
+    let t = c.self.inside.log.items in
     let k = c.self.invariant.0 in
+    let x = c.args.entry in
+    let fits : Fits (rules_of p s) t x = subst (λ (v : State). Fits (rules_of v.project v.script) v.list x) (sym c.self.view_is) c.requires.fits in
+    let of_node : IsOfNode (rules_of p s) t x = is_of_node (rules_of p s) t x c.requires.node fits in
+    let n = of_node.n in
+    let place : place_from 0 c.self.inside.tree.nodes n ≡ Some c.args.place = of_number (λ m. place_from 0 c.self.inside.tree.nodes m ≡ Some c.args.place) (number_of x) n of_node.number
+    (subst (λ (v : State). IfSome (number_of x) (λ m. place_from 0 v.nodes m ≡ Some c.args.place)) (sym c.self.view_is) c.requires.place) in
+    within c.self.inside.tree.nodes n c.args.place (c.places_are_found.ensures.numbered c.self.inside.tree.nodes n c.args.place place)
+
+pub follow-requires : goal.follow-requires
+follow-requires g c =
+    let p = c.self.inside.store in
+    let s = c.self.inside.edits.script in
+    let t = c.self.inside.log.items in
+    let k = c.self.invariant.0 in
+    let x = c.args.entry in
+    let fits : Fits (rules_of p s) t x = subst (λ (v : State). Fits (rules_of v.project v.script) v.list x) (sym c.self.view_is) c.requires.fits in
+    let of_node : IsOfNode (rules_of p s) t x = is_of_node (rules_of p s) t x c.requires.node fits in
+    let n = of_node.n in
+    let place : place_from 0 c.self.inside.tree.nodes n ≡ Some c.args.place = of_number (λ m. place_from 0 c.self.inside.tree.nodes m ≡ Some c.args.place) (number_of x) n of_node.number
+    (subst (λ (v : State). IfSome (number_of x) (λ m. place_from 0 v.nodes m ≡ Some c.args.place)) (sym c.self.view_is) c.requires.place) in
     let channels = c.channel_table.result.now in
-    let small = channel_small c.self.inside.tree (number_of c.args.entry) channels
-    (λ n. subst (λ (m : ℕ). m < max 1 (length channels)) (sym (c.trees_tell.ensures.channels nothing_seen (entity_at p) (main_of p) n c.self.inside.tree k.tree_is))
-    (subst (λ (cs : List ℕ). channel_from nothing_seen (entity_at p) (main_of p) n < max 1 (length cs)) (sym (c.channel_table.ensures.table ∙ k.tree_is.channels)) (c.trees_are_sound.ensures.channels nothing_seen (entity_at p) (main_of p) n)))
-    c.channel_table.ensures.few in
-    subst (λ (m : ℕ). m < MAX_CHANNELS) (sym c.channel_of-channel.ensures) small
+    let is_channel = channel_there c.self.inside.tree.nodes n c.args.place (bare_of c.node-node.result.now) place c.node-node.ensures.node in
+    let few : channel_in c.self.inside.tree.nodes n < max 1 (length channels) =
+    subst (λ (m : ℕ). m < max 1 (length channels)) (sym (c.trees_tell.ensures.channels nothing_seen (entity_at p) (main_of p) n c.self.inside.tree k.tree_is))
+    (subst (λ (cs : List ℕ). channel_from nothing_seen (entity_at p) (main_of p) n < max 1 (length cs)) (sym (c.channel_table.ensures.table ∙ k.tree_is.channels)) (c.trees_are_sound.ensures.channels nothing_seen (entity_at p) (main_of p) n)) in
+    subst (λ (m : ℕ). m < MAX_CHANNELS) is_channel (within_limit (channel_in c.self.inside.tree.nodes n) channels few c.channel_table.ensures.few)
 
 pub invariant_of-self : goal.invariant_of-self
-invariant_of-self c =
+invariant_of-self g c =
     let p = c.self.inside.store in
     let s = c.self.inside.edits.script in
     let t = c.self.inside.log.items in
@@ -57,6 +82,8 @@ invariant_of-self c =
     let defined : IsDefined (store_after s p t) x c.args.def = subst (λ (v : State). IsDefined (store_after v.script v.project v.list) x c.args.def) (sym c.self.view_is) c.requires.defined in
     let of_node : IsOfNode (rules_of p s) t x = is_of_node (rules_of p s) t x c.requires.node fits in
     let n = of_node.n in
+    let place : place_from 0 c.self.inside.tree.nodes n ≡ Some c.args.place = of_number (λ m. place_from 0 c.self.inside.tree.nodes m ≡ Some c.args.place) (number_of x) n of_node.number
+    (subst (λ (v : State). IfSome (number_of x) (λ m. place_from 0 v.nodes m ≡ Some c.args.place)) (sym c.self.view_is) c.requires.place) in
     let sound = c.project_rules_are_sound.ensures.sound p s k.tree_is.no_fault in
     let u = plain t in
     let part : Part e (u ++ x ∷ []) = of_node.fits.goes_on in
@@ -84,9 +111,9 @@ invariant_of-self c =
     let now_at : IsAt c.self.inside.tree.nodes c.advance.new.self (u ++ x ∷ []) = c.advance.ensures.at u freed_at held in
     let now_sorted = c.advance.ensures.sorted u (marks t ++ option_to_list (marked x)) freed_at held freed in
     let kept = state_follows p s c.self.inside.tree c.self.inside.frames c.advance.new.self t c.self.inside.marks c.follow-3.new.marks c.self.inside.vars c.follow-4.new.vars c.self.inside.steps c.follow.new.self
-    x n c.args.def c.channel_of-channel.result k entered now_at now_sorted (c.logs_move.ensures.marks t x) c.follow-3.ensures.count c.follow-3.ensures.flags c.follow-4.ensures
-    (c.channel_of-channel.ensures ∙ (ap (λ (o : Option ℕ). option_map_or (λ m. channel_in c.self.inside.tree.nodes m) o 0) of_node.number
-    ∙ c.trees_tell.ensures.channels nothing_seen (entity_at p) (main_of p) n c.self.inside.tree k.tree_is))
+    x n c.args.def c.node-node.result.now.channel k entered now_at now_sorted (c.logs_move.ensures.marks t x) c.follow-3.ensures.count c.follow-3.ensures.flags c.follow-4.ensures
+    (sym (channel_there c.self.inside.tree.nodes n c.args.place (bare_of c.node-node.result.now) place c.node-node.ensures.node)
+    ∙ c.trees_tell.ensures.channels nothing_seen (entity_at p) (main_of p) n c.self.inside.tree k.tree_is)
     c.follow.ensures in
     let logged : c.push_reserved.new.self.items ≡ t ++ x ∷ [] = c.push_reserved.ensures.items in (
       subst (λ (r : List ScriptEdit). IsState p r c.self.inside.tree c.advance.new.self c.push_reserved.new.self.items c.follow-3.new.marks c.follow-4.new.vars c.follow.new.self) (sym c.follow-2.ensures.script)
@@ -94,8 +121,8 @@ invariant_of-self c =
       subst (λ (w : List Entry). AreKept p w c.follow-2.new.self) (sym logged) (c.follow-2.ensures.kept p t c.self.invariant.1),
     )
 
-pub advance-requires : goal.advance-requires
-advance-requires c =
+pub advance-requires-clause-at : goal.advance-requires-clause-at
+advance-requires-clause-at g c =
     let p = c.self.inside.store in
     let s = c.self.inside.edits.script in
     let t = c.self.inside.log.items in
@@ -110,7 +137,7 @@ advance-requires c =
     (u, c.release_by.ensures.at u k.at, subst (λ (y : Exec). Part y (u ++ x ∷ [])) (sym k.tree_is.held) part, subst (λ (y : Exec). IsNextOf y u x) (sym k.tree_is.held) ordered)
 
 pub follow-requires-2-clause-known : goal.follow-requires-2-clause-known
-follow-requires-2-clause-known c = λ n v f.
+follow-requires-2-clause-known g c = λ n v f.
     let p = c.self.inside.store in
     let s = c.self.inside.edits.script in
     let t = c.self.inside.log.items in
@@ -131,22 +158,48 @@ follow-requires-2-clause-known c = λ n v f.
     step_has_version p t c.self.inside.edits n c.self.invariant.1 (subst (λ (ns : List ℕ). has ns n ≡ true) steps works)
 
 pub release_by-requires-clause-at : goal.release_by-requires-clause-at
-release_by-requires-clause-at c = (plain c.self.inside.log.items, marks c.self.inside.log.items, c.self.invariant.0.at, c.self.invariant.0.sorted)
+release_by-requires-clause-at g c = (plain c.self.inside.log.items, marks c.self.inside.log.items, c.self.invariant.0.at, c.self.invariant.0.sorted)
 
-pub release_by-requires-clause-mark : goal.release_by-requires-clause-mark
-release_by-requires-clause-mark c =
+pub release_by-requires-clause-place : goal.release_by-requires-clause-place
+release_by-requires-clause-place g c = marked_place c.self.inside.tree.nodes c.args.entry c.args.place
+    (subst (λ (v : State). IfSome (number_of c.args.entry) (λ m. place_from 0 v.nodes m ≡ Some c.args.place)) (sym c.self.view_is) c.requires.place)
+
+pub follow-requires-3-clause-place : goal.follow-requires-3-clause-place
+follow-requires-3-clause-place g c = marked_place c.self.inside.tree.nodes c.args.entry c.args.place
+    (subst (λ (v : State). IfSome (number_of c.args.entry) (λ m. place_from 0 v.nodes m ≡ Some c.args.place)) (sym c.self.view_is) c.requires.place)
+
+pub follow-requires-4-clause-said : goal.follow-requires-4-clause-said
+follow-requires-4-clause-said g c =
+    let p = c.self.inside.store in
+    let s = c.self.inside.edits.script in
+    let t = c.self.inside.log.items in
+    let k = c.self.invariant.0 in
+    let x = c.args.entry in
+    let fits : Fits (rules_of p s) t x = subst (λ (v : State). Fits (rules_of v.project v.script) v.list x) (sym c.self.view_is) c.requires.fits in
+    let of_node : IsOfNode (rules_of p s) t x = is_of_node (rules_of p s) t x c.requires.node fits in
+    let n = of_node.n in
+    let place : place_from 0 c.self.inside.tree.nodes n ≡ Some c.args.place = of_number (λ m. place_from 0 c.self.inside.tree.nodes m ≡ Some c.args.place) (number_of x) n of_node.number
+    (subst (λ (v : State). IfSome (number_of x) (λ m. place_from 0 v.nodes m ≡ Some c.args.place)) (sym c.self.view_is) c.requires.place) in
+    for_number (λ m. said_in c.self.inside.tree m ≡ Some (said_by c.node-node.result.now)) (number_of x) n of_node.number
+    (said_there c.self.inside.tree n c.args.place (Some (said_by c.node-node.result.now)) place c.node-node.ensures.said)
+
+pub advance-requires-clause-place : goal.advance-requires-clause-place
+advance-requires-clause-place g c = subst (λ (v : State). IfSome (number_of c.args.entry) (λ m. place_from 0 v.nodes m ≡ Some c.args.place)) (sym c.self.view_is) c.requires.place
+
+pub returns-clause-looks : goal.returns-clause-looks
+returns-clause-looks g c =
     let p = c.self.inside.store in
     let s = c.self.inside.edits.script in
     let t = c.self.inside.log.items in
     let k = c.self.invariant.0 in
     let x = c.args.entry in
     let e = tree_of (entity_at p) (main_of p) in
-    let u = plain t in
-    let d = c.trees_are_sound.ensures.distinct nothing_seen (entity_at p) (main_of p) k.tree_is.no_fault in
     let fits : Fits (rules_of p s) t x = subst (λ (v : State). Fits (rules_of v.project v.script) v.list x) (sym c.self.view_is) c.requires.fits in
     let of_node : IsOfNode (rules_of p s) t x = is_of_node (rules_of p s) t x c.requires.node fits in
-    let n = of_node.n in
-    let off = c.what_is_offered_follows.ensures.offered e u x n d of_node.fits.goes_on of_node.number in
-    let goes : has (next e u) n ≡ true = subst (λ (o : Option ℕ). has_some (next e u) o ≡ true) of_node.number off.0 in
-    let here : has (exec.nodes e) n ≡ true = filter_has (has (next e u)) (exec.nodes e) n (subst (λ (ns : List ℕ). has ns n ≡ true) (c.next_stands_in_preorder.ensures.order e u d) goes) in
-    subst (λ (y : Exec). IfSome (marked x) (λ m. has (exec.nodes y) m ≡ true)) (sym k.tree_is.held) (mark_there (exec.nodes e) x n of_node.number here)
+    let u = plain t in
+    let held : Part (tree_in c.self.inside.tree) (u ++ x ∷ []) = subst (λ (y : Exec). Part y (u ++ x ∷ [])) (sym k.tree_is.held) of_node.fits.goes_on in
+    let numbered : AreNumbered (tree_in c.self.inside.tree) = subst AreNumbered (sym k.tree_is.held) (c.trees_are_numbered.ensures (entity_at p) (main_of p)) in
+    let moved : c.advance.new.steps ≤ c.node-node.new.steps + (3 + nesting e + 2 * length (new_in e u x)) =
+    subst (λ (y : Exec). c.advance.new.steps ≤ c.node-node.new.steps + (3 + nesting y + 2 * length (new_in y u x))) k.tree_is.held (c.advance.ensures.looks u (c.release_by.ensures.at u k.at) held numbered) in
+    let looked = c.node-node.ensures.ticks in
+    subst (λ (v : State). c.advance.new.steps ≤ c.args.steps.now + (4 + nesting ((rules_of v.project v.script).tree v.list) + 2 * length (new_in ((rules_of v.project v.script).tree v.list) (plain v.list) x))) c.self.view_is (omega (arith, moved, looked))

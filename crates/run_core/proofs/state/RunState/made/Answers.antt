@@ -9,7 +9,7 @@ use Rattle.nc_expr.specs.Vars.{value_at}
 use Rattle.exec_tree.specs.Exec.{Exec, has}
 use Rattle.exec_tree.specs.Exec as exec
 use Rattle.exec_tree.specs.Executable.{kind_at}
-use Rattle.exec_tree.specs.Said.{said_for}
+use Rattle.exec_tree.specs.Said.{said_for, said_by, bare_of}
 use Rattle.exec_tree.specs.TreeFault.{nothing_seen}
 use Rattle.exec_tree.specs.TreeOf.{tree_of}
 use Rattle.exec_tree.specs.Built.{main_of}
@@ -20,11 +20,14 @@ use Rattle.run_law.specs.Replay.{made}
 use Rattle.run_frames.specs.Deeds.{deed_offer, upto}
 use Rattle.project_law.specs.ProjectRules.{rules_of}
 use Rattle.run_core.specs.Kept.{State, IsDefined}
-use Rattle.run_frames.specs.Standing.{IsNextOf}
+use Rattle.run_frames.specs.Standing.{IsNextOf, IsPlace}
+use Rattle.tree_table.specs.Placed.{number_at}
+use Rattle.run_core.specs.Edits.{HasVersion, version_now}
+use Rattle.run_core.proofs.PlaceLemmas.{within, channel_there, said_there}
 use Rattle.trace_law.specs.Below.{tree_in}
 use Rattle.run_core.proofs.QuestionLemmas.{told, filter_has}
 use Rattle.run_core.proofs.KindLemmas.{store_done_by}
-use Rattle.run_core.specs.State.{def_by}
+use Rattle.run_core.specs.State.{def_by, entry_by}
 use Rattle.project_law.specs.Script.{store_after}
 use Rattle.edit_rules.specs.Faults.{has_def}
 use Rattle.step_def.specs.Condition.{is_workingstep}
@@ -37,7 +40,7 @@ use Rattle.run_core.proofs.PickLemmas.{picked_few}
 use Rattle.run_core.proofs.state.RunState.made.Goals as goal
 
 pub returns-clause-entry : goal.returns-clause-entry
-returns-clause-entry c =
+returns-clause-entry g c =
     let p = c.self.inside.store in
     let s = c.self.inside.edits.script in
     let t = c.self.inside.log.items in
@@ -46,123 +49,148 @@ returns-clause-entry c =
     let d = c.trees_are_sound.ensures.distinct nothing_seen (entity_at p) (main_of p) k.tree_is.no_fault in
     let tells = told p s c.self.inside.tree t k.tree_is (λ n. c.trees_tell.ensures.channels nothing_seen (entity_at p) (main_of p) n c.self.inside.tree k.tree_is)
     (λ n. c.trees_tell.ensures.roles nothing_seen (entity_at p) (main_of p) n c.self.inside.tree k.tree_is) (c.next_stands_in_preorder.ensures.order e (plain t) d) in
-    let is_next : has (next_of (rules_of p s) t) c.args.n ≡ true = subst (λ (v : State). has (next_of (rules_of v.project v.script) v.list) c.args.n ≡ true) (sym c.self.view_is) c.requires in
+    let n = number_at c.self.inside.tree.nodes c.args.place in
+    let q : c.number_in-n.result ≡ n = c.number_in-n.ensures in
+    let is_place : IsPlace c.self.inside.tree.nodes c.args.place = subst (λ (v : State). IsPlace v.nodes c.args.place) (sym c.self.view_is) c.requires.place in
+    let is_next : has (next_of (rules_of p s) t) n ≡ true = subst (λ (v : State). has (next_of (rules_of v.project v.script) v.list) (number_at v.nodes c.args.place) ≡ true) (sym c.self.view_is) c.requires.next in
     let u = plain t in
-    let goes : has (next e u) c.args.n ≡ true = is_next in
-    let there : has (next (tree_in c.self.inside.tree) u) c.args.n ≡ true = subst (λ (x : Exec). has (next x u) c.args.n ≡ true) (sym k.tree_is.held) goes in
-    let here : has (exec.nodes e) c.args.n ≡ true = tells.within c.args.n goes in
-    let does : deed_offer c.deed-deed.result ≡ offer e u c.args.n = c.deed-deed.ensures u k.at there ∙ ap (λ (x : Exec). offer x u c.args.n) k.tree_is.held in
-    let starts : offer e u c.args.n ≡ offers.Starts → c.deed-deed.result ≡ deeds.Starts = λ f. started_by c.deed-deed.result (does ∙ f) in
+    let goes : has (next e u) n ≡ true = is_next in
+    let there : has (next (tree_in c.self.inside.tree) u) n ≡ true = subst (λ (x : Exec). has (next x u) n ≡ true) (sym k.tree_is.held) goes in
+    let here : has (exec.nodes e) n ≡ true = tells.within n goes in
+    let does : deed_offer c.deed-deed.result ≡ offer e u n = c.deed-deed.ensures u k.at there ∙ ap (λ (x : Exec). offer x u n) k.tree_is.held in
+    let starts : offer e u n ≡ offers.Starts → c.deed-deed.result ≡ deeds.Starts = λ f. started_by c.deed-deed.result (does ∙ f) in
     let part : Part e u = c.legal_runs.ensures.part (rules_of p s) t (c.project_rules_are_sound.ensures.sound p s k.tree_is.no_fault) k.legal in
-    let asked : Asked p s t c.self.inside.tree c.self.inside.vars c.self.inside.steps c.version_by-version.result c.args.n = record {
+    let channel = c.node-node.result.now.channel in
+    let said = Some (said_by c.node-node.result.now) in
+    let asked : Asked p s t c.self.inside.tree channel said c.self.inside.vars c.self.inside.steps c.version_by-version.result n = record {
       tells = tells;
       kept = k.steps_are;
       vars_are = k.vars_are;
-      version_is = λ f. sym (c.version_by-version.ensures (starts f) ∙ c.self.invariant.1.versions_are c.args.n (starter_is p u c.args.n c.deed-deed.result (c.trees_are_sound.ensures.nodes (entity_at p) (main_of p)) (c.trees_are_sound.ensures.steps (entity_at p) (main_of p)) here does (starts f)));
-      said = c.trees_tell.ensures.said nothing_seen (entity_at p) (main_of p) c.args.n c.self.inside.tree k.tree_is
-          ∙ ap (λ (b : Bool). if b then Some (said_for (entity_at p) (kind_at (entity_at p c.args.n)) (entity_at p c.args.n)) else None) here;
-      done_by = store_done_by (entity_at p) (main_of p) u c.args.n here;
-      counted = λ j f. sym (c.logs_move.ensures.plain_stage t c.args.n) ∙ c.blocks_are_counted.ensures.offered e u c.args.n j f;
-      free = c.what_can_go_on_is_open.ensures e u c.args.n d (c.trees_are_sound.ensures.choices nothing_seen (entity_at p) (main_of p) k.tree_is.no_fault) part goes;
+      version_is = λ f. sym (c.version_by-version.ensures (starts f) ∙ ap (version_now c.self.inside.edits.editing) q ∙ c.self.invariant.1.versions_are n (starter_is p u n c.deed-deed.result (c.trees_are_sound.ensures.nodes (entity_at p) (main_of p)) (c.trees_are_sound.ensures.steps (entity_at p) (main_of p)) here does (starts f)));
+      channel_is = sym (channel_there c.self.inside.tree.nodes n c.args.place (bare_of c.node-node.result.now) is_place c.node-node.ensures.node) ∙ tells.channels n;
+      said_is = sym (said_there c.self.inside.tree n c.args.place said is_place c.node-node.ensures.said) ∙ c.trees_tell.ensures.said nothing_seen (entity_at p) (main_of p) n c.self.inside.tree k.tree_is
+          ∙ ap (λ (b : Bool). if b then Some (said_for (entity_at p) (kind_at (entity_at p n)) (entity_at p n)) else None) here;
+      done_by = store_done_by (entity_at p) (main_of p) u n here;
+      counted = λ j f. sym (c.logs_move.ensures.plain_stage t n) ∙ c.blocks_are_counted.ensures.offered e u n j f;
+      free = c.what_can_go_on_is_open.ensures e u n d (c.trees_are_sound.ensures.choices nothing_seen (entity_at p) (main_of p) k.tree_is.no_fault) part goes;
     } in
-    subst (λ (v : State). c.entry_by-entry.result ≡ made (rules_of v.project v.script) v.list c.args.n) c.self.view_is
-    (c.entry_by-entry.ensures ∙ made_is p s t c.self.inside.tree c.self.inside.vars c.self.inside.steps c.version_by-version.result c.args.n asked c.deed-deed.result (c.deed-deed.ensures u k.at there))
+    subst (λ (v : State). c.entry_by-entry.result ≡ made (rules_of v.project v.script) v.list (number_at v.nodes c.args.place)) c.self.view_is
+    (c.entry_by-entry.ensures ∙ ap (λ (j : ℕ). entry_by channel said c.self.inside.steps (value_at c.self.inside.vars) c.version_by-version.result j c.deed-deed.result) q ∙ made_is p s t c.self.inside.tree channel said c.self.inside.vars c.self.inside.steps c.version_by-version.result n asked c.deed-deed.result (c.deed-deed.ensures u k.at there))
 
 pub returns-clause-defined : goal.returns-clause-defined
-returns-clause-defined c =
+returns-clause-defined g c =
     let p = c.self.inside.store in
     let s = c.self.inside.edits.script in
     let t = c.self.inside.log.items in
     let k = c.self.invariant.0 in
     let e = tree_of (entity_at p) (main_of p) in
     let d = c.trees_are_sound.ensures.distinct nothing_seen (entity_at p) (main_of p) k.tree_is.no_fault in
-    let is_next : has (next_of (rules_of p s) t) c.args.n ≡ true = subst (λ (v : State). has (next_of (rules_of v.project v.script) v.list) c.args.n ≡ true) (sym c.self.view_is) c.requires in
+    let n = number_at c.self.inside.tree.nodes c.args.place in
+    let q : c.number_in-n.result ≡ n = c.number_in-n.ensures in
+    let is_next : has (next_of (rules_of p s) t) n ≡ true = subst (λ (v : State). has (next_of (rules_of v.project v.script) v.list) (number_at v.nodes c.args.place) ≡ true) (sym c.self.view_is) c.requires.next in
     let u = plain t in
-    let goes : has (next e u) c.args.n ≡ true = is_next in
-    let there : has (next (tree_in c.self.inside.tree) u) c.args.n ≡ true = subst (λ (x : Exec). has (next x u) c.args.n ≡ true) (sym k.tree_is.held) goes in
-    let here : has (exec.nodes e) c.args.n ≡ true = filter_has (has (next e u)) (exec.nodes e) c.args.n (subst (λ (ns : List ℕ). has ns c.args.n ≡ true) (c.next_stands_in_preorder.ensures.order e (plain t) d) goes) in
-    let does : deed_offer c.deed-deed.result ≡ offer e u c.args.n = c.deed-deed.ensures u k.at there ∙ ap (λ (x : Exec). offer x u c.args.n) k.tree_is.held in
+    let goes : has (next e u) n ≡ true = is_next in
+    let there : has (next (tree_in c.self.inside.tree) u) n ≡ true = subst (λ (x : Exec). has (next x u) n ≡ true) (sym k.tree_is.held) goes in
+    let here : has (exec.nodes e) n ≡ true = filter_has (has (next e u)) (exec.nodes e) n (subst (λ (ns : List ℕ). has ns n ≡ true) (c.next_stands_in_preorder.ensures.order e (plain t) d) goes) in
+    let does : deed_offer c.deed-deed.result ≡ offer e u n = c.deed-deed.ensures u k.at there ∙ ap (λ (x : Exec). offer x u n) k.tree_is.held in
     let now = store_after s p t in
     let same : c.store.result.now ≡ now = c.store.ensures ∙ c.self.invariant.1.store_is in
-    let starts : c.deed-deed.result ≡ deeds.Starts → has_def now c.args.n ≡ true =
-    λ f. c.self.invariant.1.defined c.args.n (starter_is p u c.args.n c.deed-deed.result (c.trees_are_sound.ensures.nodes (entity_at p) (main_of p)) (c.trees_are_sound.ensures.steps (entity_at p) (main_of p)) here does f) in
+    let starts : c.deed-deed.result ≡ deeds.Starts → has_def now n ≡ true =
+    λ f. c.self.invariant.1.defined n (starter_is p u n c.deed-deed.result (c.trees_are_sound.ensures.nodes (entity_at p) (main_of p)) (c.trees_are_sound.ensures.steps (entity_at p) (main_of p)) here does f) in
     subst (λ (v : State). IsDefined (store_after v.script v.project v.list) c.entry_by-entry.result c.def_by-def.result) c.self.view_is
-    (λ m v f. subst (λ (o : Option Def). IsSomeAnd o (λ def. def_of (entity_at now) m ≡ Ok def)) (sym (c.def_by-def.ensures ∙ ap (λ (store : List Entity). def_by store c.args.n c.deed-deed.result) same))
-    (defined_is now c.self.inside.tree c.self.inside.steps (value_at c.self.inside.vars) c.version_by-version.result c.args.n c.deed-deed.result starts m v (sym c.entry_by-entry.ensures ∙ f)))
+    (λ m v f. subst (λ (o : Option Def). IsSomeAnd o (λ def. def_of (entity_at now) m ≡ Ok def)) (sym (c.def_by-def.ensures ∙ ap (λ (store : List Entity). def_by store c.number_in-n.result c.deed-deed.result) same ∙ ap (λ (j : ℕ). def_by now j c.deed-deed.result) q))
+    (defined_is now c.node-node.result.now.channel (Some (said_by c.node-node.result.now)) c.self.inside.steps (value_at c.self.inside.vars) c.version_by-version.result n c.deed-deed.result starts m v
+    (sym (c.entry_by-entry.ensures ∙ ap (λ (j : ℕ). entry_by c.node-node.result.now.channel (Some (said_by c.node-node.result.now)) c.self.inside.steps (value_at c.self.inside.vars) c.version_by-version.result j c.deed-deed.result) q) ∙ f)))
 
 pub returns-clause-in_order : goal.returns-clause-in_order
-returns-clause-in_order c =
+returns-clause-in_order g c =
     let p = c.self.inside.store in
     let s = c.self.inside.edits.script in
     let t = c.self.inside.log.items in
     let k = c.self.invariant.0 in
     let e = tree_of (entity_at p) (main_of p) in
-    let is_next : has (next_of (rules_of p s) t) c.args.n ≡ true = subst (λ (v : State). has (next_of (rules_of v.project v.script) v.list) c.args.n ≡ true) (sym c.self.view_is) c.requires in
+    let n = number_at c.self.inside.tree.nodes c.args.place in
+    let q : c.number_in-n.result ≡ n = c.number_in-n.ensures in
+    let is_next : has (next_of (rules_of p s) t) n ≡ true = subst (λ (v : State). has (next_of (rules_of v.project v.script) v.list) (number_at v.nodes c.args.place) ≡ true) (sym c.self.view_is) c.requires.next in
     let u = plain t in
-    let goes : has (next e u) c.args.n ≡ true = is_next in
-    let there : has (next (tree_in c.self.inside.tree) u) c.args.n ≡ true = subst (λ (x : Exec). has (next x u) c.args.n ≡ true) (sym k.tree_is.held) goes in
+    let goes : has (next e u) n ≡ true = is_next in
+    let there : has (next (tree_in c.self.inside.tree) u) n ≡ true = subst (λ (x : Exec). has (next x u) n ≡ true) (sym k.tree_is.held) goes in
     subst (λ (v : State). IsNextOf ((rules_of v.project v.script).tree v.list) (plain v.list) c.entry_by-entry.result) c.self.view_is
-    (λ m j f. in_order_is c.self.inside.tree u c.self.inside.steps (value_at c.self.inside.vars) c.version_by-version.result e c.args.n c.deed-deed.result
-    (c.deed-deed.ensures u k.at there ∙ ap (λ (x : Exec). offer x u c.args.n) k.tree_is.held) m j (sym c.entry_by-entry.ensures ∙ f))
+    (λ m j f. in_order_is c.node-node.result.now.channel (Some (said_by c.node-node.result.now)) u c.self.inside.steps (value_at c.self.inside.vars) c.version_by-version.result e n c.deed-deed.result
+    (c.deed-deed.ensures u k.at there ∙ ap (λ (x : Exec). offer x u n) k.tree_is.held) m j (sym (c.entry_by-entry.ensures ∙ ap (λ (i : ℕ). entry_by c.node-node.result.now.channel (Some (said_by c.node-node.result.now)) c.self.inside.steps (value_at c.self.inside.vars) c.version_by-version.result i c.deed-deed.result) q) ∙ f))
 
-pub deed-deed-requires : goal.deed-deed-requires
-deed-deed-requires c =
+pub deed-deed-requires-clause-at : goal.deed-deed-requires-clause-at
+deed-deed-requires-clause-at g c =
     let p = c.self.inside.store in
     let s = c.self.inside.edits.script in
     let t = c.self.inside.log.items in
     let k = c.self.invariant.0 in
     let e = tree_of (entity_at p) (main_of p) in
-    let is_next : has (next_of (rules_of p s) t) c.args.n ≡ true = subst (λ (v : State). has (next_of (rules_of v.project v.script) v.list) c.args.n ≡ true) (sym c.self.view_is) c.requires in
+    let n = number_at c.self.inside.tree.nodes c.args.place in
+    let q : c.number_in-n.result ≡ n = c.number_in-n.ensures in
+    let is_next : has (next_of (rules_of p s) t) n ≡ true = subst (λ (v : State). has (next_of (rules_of v.project v.script) v.list) (number_at v.nodes c.args.place) ≡ true) (sym c.self.view_is) c.requires.next in
     let u = plain t in
-    let goes : has (next e u) c.args.n ≡ true = is_next in
-    (u, k.at, subst (λ (x : Exec). has (next x u) c.args.n ≡ true) (sym k.tree_is.held) goes)
+    let goes : has (next e u) n ≡ true = is_next in
+    let is_place : IsPlace c.self.inside.tree.nodes c.args.place = subst (λ (v : State). IsPlace v.nodes c.args.place) (sym c.self.view_is) c.requires.place in
+    (u, k.at, is_place, subst (λ (x : Exec). has (next x u) n ≡ true) (sym k.tree_is.held) goes)
 
 pub def_by-def-requires : goal.def_by-def-requires
-def_by-def-requires c =
+def_by-def-requires g c =
     let p = c.self.inside.store in
     let s = c.self.inside.edits.script in
     let t = c.self.inside.log.items in
     let k = c.self.invariant.0 in
     let e = tree_of (entity_at p) (main_of p) in
     let d = c.trees_are_sound.ensures.distinct nothing_seen (entity_at p) (main_of p) k.tree_is.no_fault in
-    let is_next : has (next_of (rules_of p s) t) c.args.n ≡ true = subst (λ (v : State). has (next_of (rules_of v.project v.script) v.list) c.args.n ≡ true) (sym c.self.view_is) c.requires in
+    let n = number_at c.self.inside.tree.nodes c.args.place in
+    let q : c.number_in-n.result ≡ n = c.number_in-n.ensures in
+    let is_next : has (next_of (rules_of p s) t) n ≡ true = subst (λ (v : State). has (next_of (rules_of v.project v.script) v.list) (number_at v.nodes c.args.place) ≡ true) (sym c.self.view_is) c.requires.next in
     let u = plain t in
-    let goes : has (next e u) c.args.n ≡ true = is_next in
-    let there : has (next (tree_in c.self.inside.tree) u) c.args.n ≡ true = subst (λ (x : Exec). has (next x u) c.args.n ≡ true) (sym k.tree_is.held) goes in
-    let here : has (exec.nodes e) c.args.n ≡ true = filter_has (has (next e u)) (exec.nodes e) c.args.n (subst (λ (ns : List ℕ). has ns c.args.n ≡ true) (c.next_stands_in_preorder.ensures.order e (plain t) d) goes) in
-    let does : deed_offer c.deed-deed.result ≡ offer e u c.args.n = c.deed-deed.ensures u k.at there ∙ ap (λ (x : Exec). offer x u c.args.n) k.tree_is.held in
-    λ f. subst (λ (store : List Entity). is_workingstep (entity_at store) c.args.n ≡ true) (sym (c.store.ensures ∙ c.self.invariant.1.store_is))
-    (c.self.invariant.1.steps_are c.args.n (starter_is p u c.args.n c.deed-deed.result (c.trees_are_sound.ensures.nodes (entity_at p) (main_of p)) (c.trees_are_sound.ensures.steps (entity_at p) (main_of p)) here does f))
+    let goes : has (next e u) n ≡ true = is_next in
+    let there : has (next (tree_in c.self.inside.tree) u) n ≡ true = subst (λ (x : Exec). has (next x u) n ≡ true) (sym k.tree_is.held) goes in
+    let here : has (exec.nodes e) n ≡ true = filter_has (has (next e u)) (exec.nodes e) n (subst (λ (ns : List ℕ). has ns n ≡ true) (c.next_stands_in_preorder.ensures.order e (plain t) d) goes) in
+    let does : deed_offer c.deed-deed.result ≡ offer e u n = c.deed-deed.ensures u k.at there ∙ ap (λ (x : Exec). offer x u n) k.tree_is.held in
+    λ f. subst (λ (store : List Entity). is_workingstep (entity_at store) c.number_in-n.result ≡ true) (sym (c.store.ensures ∙ c.self.invariant.1.store_is))
+    (subst (λ (j : ℕ). is_workingstep (entity_at (store_after s p t)) j ≡ true) (sym q) (c.self.invariant.1.steps_are n (starter_is p u n c.deed-deed.result (c.trees_are_sound.ensures.nodes (entity_at p) (main_of p)) (c.trees_are_sound.ensures.steps (entity_at p) (main_of p)) here does f)))
 
 pub version_by-version-requires : goal.version_by-version-requires
-version_by-version-requires c =
+version_by-version-requires g c =
     let p = c.self.inside.store in
     let s = c.self.inside.edits.script in
     let t = c.self.inside.log.items in
     let k = c.self.invariant.0 in
     let e = tree_of (entity_at p) (main_of p) in
     let d = c.trees_are_sound.ensures.distinct nothing_seen (entity_at p) (main_of p) k.tree_is.no_fault in
-    let is_next : has (next_of (rules_of p s) t) c.args.n ≡ true = subst (λ (v : State). has (next_of (rules_of v.project v.script) v.list) c.args.n ≡ true) (sym c.self.view_is) c.requires in
+    let n = number_at c.self.inside.tree.nodes c.args.place in
+    let q : c.number_in-n.result ≡ n = c.number_in-n.ensures in
+    let is_next : has (next_of (rules_of p s) t) n ≡ true = subst (λ (v : State). has (next_of (rules_of v.project v.script) v.list) (number_at v.nodes c.args.place) ≡ true) (sym c.self.view_is) c.requires.next in
     let u = plain t in
-    let goes : has (next e u) c.args.n ≡ true = is_next in
-    let there : has (next (tree_in c.self.inside.tree) u) c.args.n ≡ true = subst (λ (x : Exec). has (next x u) c.args.n ≡ true) (sym k.tree_is.held) goes in
-    let here : has (exec.nodes e) c.args.n ≡ true = filter_has (has (next e u)) (exec.nodes e) c.args.n (subst (λ (ns : List ℕ). has ns c.args.n ≡ true) (c.next_stands_in_preorder.ensures.order e (plain t) d) goes) in
-    let does : deed_offer c.deed-deed.result ≡ offer e u c.args.n = c.deed-deed.ensures u k.at there ∙ ap (λ (x : Exec). offer x u c.args.n) k.tree_is.held in
-    λ f. step_has_version p t c.self.inside.edits c.args.n c.self.invariant.1 (starter_is p u c.args.n c.deed-deed.result (c.trees_are_sound.ensures.nodes (entity_at p) (main_of p)) (c.trees_are_sound.ensures.steps (entity_at p) (main_of p)) here does f)
+    let goes : has (next e u) n ≡ true = is_next in
+    let there : has (next (tree_in c.self.inside.tree) u) n ≡ true = subst (λ (x : Exec). has (next x u) n ≡ true) (sym k.tree_is.held) goes in
+    let here : has (exec.nodes e) n ≡ true = filter_has (has (next e u)) (exec.nodes e) n (subst (λ (ns : List ℕ). has ns n ≡ true) (c.next_stands_in_preorder.ensures.order e (plain t) d) goes) in
+    let does : deed_offer c.deed-deed.result ≡ offer e u n = c.deed-deed.ensures u k.at there ∙ ap (λ (x : Exec). offer x u n) k.tree_is.held in
+    λ f. subst (HasVersion c.self.inside.edits.editing) (sym q) (step_has_version p t c.self.inside.edits n c.self.invariant.1 (starter_is p u n c.deed-deed.result (c.trees_are_sound.ensures.nodes (entity_at p) (main_of p)) (c.trees_are_sound.ensures.steps (entity_at p) (main_of p)) here does f))
 
 pub entry_by-entry-requires : goal.entry_by-entry-requires
-entry_by-entry-requires c =
+entry_by-entry-requires g c =
     let p = c.self.inside.store in
     let s = c.self.inside.edits.script in
     let t = c.self.inside.log.items in
     let k = c.self.invariant.0 in
     let e = tree_of (entity_at p) (main_of p) in
     let d = c.trees_are_sound.ensures.distinct nothing_seen (entity_at p) (main_of p) k.tree_is.no_fault in
-    let is_next : has (next_of (rules_of p s) t) c.args.n ≡ true = subst (λ (v : State). has (next_of (rules_of v.project v.script) v.list) c.args.n ≡ true) (sym c.self.view_is) c.requires in
+    let n = number_at c.self.inside.tree.nodes c.args.place in
+    let q : c.number_in-n.result ≡ n = c.number_in-n.ensures in
+    let is_next : has (next_of (rules_of p s) t) n ≡ true = subst (λ (v : State). has (next_of (rules_of v.project v.script) v.list) (number_at v.nodes c.args.place) ≡ true) (sym c.self.view_is) c.requires.next in
     let u = plain t in
-    let goes : has (next e u) c.args.n ≡ true = is_next in
-    let there : has (next (tree_in c.self.inside.tree) u) c.args.n ≡ true = subst (λ (x : Exec). has (next x u) c.args.n ≡ true) (sym k.tree_is.held) goes in
-    let does : deed_offer c.deed-deed.result ≡ offer e u c.args.n = c.deed-deed.ensures u k.at there ∙ ap (λ (x : Exec). offer x u c.args.n) k.tree_is.held in
+    let goes : has (next e u) n ≡ true = is_next in
+    let there : has (next (tree_in c.self.inside.tree) u) n ≡ true = subst (λ (x : Exec). has (next x u) n ≡ true) (sym k.tree_is.held) goes in
+    let does : deed_offer c.deed-deed.result ≡ offer e u n = c.deed-deed.ensures u k.at there ∙ ap (λ (x : Exec). offer x u n) k.tree_is.held in
     let part : Part e u = c.legal_runs.ensures.part (rules_of p s) t (c.project_rules_are_sound.ensures.sound p s k.tree_is.no_fault) k.legal in
-    let free : IsOpen (offer e u c.args.n) = c.what_can_go_on_is_open.ensures e u c.args.n d (c.trees_are_sound.ensures.choices nothing_seen (entity_at p) (main_of p) k.tree_is.no_fault) part goes in
+    let free : IsOpen (offer e u n) = c.what_can_go_on_is_open.ensures e u n d (c.trees_are_sound.ensures.choices nothing_seen (entity_at p) (main_of p) k.tree_is.no_fault) part goes in
     λ count picked f. let left : IsOpen (offers.Picks count (upto picked)) = subst IsOpen (sym does ∙ ap deed_offer f) free in picked_few count picked left.0 left.1 left.2
+
+pub node-node-requires : goal.node-node-requires
+node-node-requires g c =
+    let is_place : IsPlace c.self.inside.tree.nodes c.args.place = subst (λ (v : State). IsPlace v.nodes c.args.place) (sym c.self.view_is) c.requires.place in
+    within c.self.inside.tree.nodes (number_at c.self.inside.tree.nodes c.args.place) c.args.place (c.places_are_found.ensures.numbered c.self.inside.tree.nodes (number_at c.self.inside.tree.nodes c.args.place) c.args.place is_place)

@@ -1,10 +1,8 @@
-use Rattle.std.proofs.Common.{[], ◌∙◌, ap, sym, subst, List, length, map}
+use Rattle.std.proofs.Common.{[], ◌∙◌, ap, sym, subst, List, length}
 use Rattle.std.specs.Vec.{with_items}
-use Rattle.exec_tree.specs.Exec.{AreDistinct, nodes}
 use Rattle.exec_tree.specs.Said.{bare_of}
 use Rattle.exec_tree.specs.declared.node.BareNode.{BareNode}
 use Rattle.tree_table.specs.Placed.{placed}
-use Rattle.tree_table.specs.Table.{IsTable}
 use Rattle.tree_table.proofs.PlacedLemmas.{length_map}
 use Rattle.run_frames.specs.declared.frame.Frame.{Frame}
 use Rattle.run_frames.specs.Entered.{AreUnpickedIn, IsEntered}
@@ -15,29 +13,28 @@ use Rattle.run_frames.specs.Ready.{AreClasses}
 use Rattle.run_frames.proofs.frames.Frames.open.Goals as goal
 
 pub enter_tree-requires-clause-distinct : goal.enter_tree-requires-clause-distinct
-enter_tree-requires-clause-distinct c =
-    subst (λ (arena : List BareNode). AreDistinct (nodes (placed arena))) (sym c.nodes-arena.ensures.nodes) (placed_once c.args.tree.now.nodes c.nodes-arena.ensures.distinct)
-
-pub enter_tree-requires-clause-table : goal.enter_tree-requires-clause-table
-enter_tree-requires-clause-table c =
-    subst (λ (arena : List BareNode). IsTable arena c.in_ok-table.table.rows.items) (sym c.nodes-arena.ensures.nodes) c.in_ok-table.ensures
+enter_tree-requires-clause-distinct g c = placed_once c.args.tree.now.nodes c.nodes-arena.ensures.distinct
 
 pub enter_tree-requires-clause-unpicked : goal.enter_tree-requires-clause-unpicked
-enter_tree-requires-clause-unpicked c =
-    subst (λ (l : List Frame). AreUnpickedIn (map bare_of c.nodes-arena.result.now) l) (sym c.as_mut_slice.ensures.value) (c.in_ok-frames.ensures.unpicked (map bare_of c.nodes-arena.result.now) (length_map bare_of c.nodes-arena.result.now))
+enter_tree-requires-clause-unpicked g c =
+    let long = sym (ap (λ (l : List BareNode). length l) c.nodes-arena.ensures.nodes) ∙ length_map bare_of c.nodes-arena.result.now in
+    subst (λ (l : List Frame). AreUnpickedIn c.args.tree.now.nodes l) (sym c.as_mut_slice.ensures.value) (c.in_ok-frames.ensures.unpicked c.args.tree.now.nodes long)
+
+pub enter_tree-requires-clause-room : goal.enter_tree-requires-clause-room
+enter_tree-requires-clause-room g c =
+    ap (λ (l : List Frame). length l) c.as_mut_slice.ensures.value ∙ (c.in_ok-frames.ensures.long ∙ (sym (length_map bare_of c.nodes-arena.result.now) ∙ ap (λ (l : List BareNode). length l) c.nodes-arena.ensures.nodes))
 
 pub returns-clause-at : goal.returns-clause-at
-returns-clause-at c =
+returns-clause-at g c =
     let arena = c.args.tree.now.nodes in
     let long = ap (λ (l : List Frame). length l) c.as_mut_slice.ensures.value ∙ (c.in_ok-frames.ensures.long ∙ (sym (length_map bare_of c.nodes-arena.result.now) ∙ ap (λ (l : List BareNode). length l) c.nodes-arena.ensures.nodes)) in
     let same = refilled c.in_ok-frames.frames c.enter_tree.new.frames (c.enter_tree.ensures.moved.long ∙ ap (λ (l : List Frame). length l) c.as_mut_slice.ensures.value) in
     at_first arena c.as_mut_slice.result.now c.in_ok-set.set.all (record { frames = with_items c.in_ok-frames.frames c.enter_tree.new.frames; table = c.in_ok-table.table; set = c.enter_tree.new.set; waits = c.in_ok-waits.waits }) long c.in_ok-set.ensures.none
-    (subst (λ (l : List Frame). IsEntered arena c.as_mut_slice.result.now l c.in_ok-set.set.all c.enter_tree.new.set.all (placed arena)) (sym same)
-    (subst (λ (w : List BareNode). IsEntered w c.as_mut_slice.result.now c.enter_tree.new.frames c.in_ok-set.set.all c.enter_tree.new.set.all (placed w)) c.nodes-arena.ensures.nodes c.enter_tree.ensures.moved)) c.in_ok-table.ensures
+    (subst (λ (l : List Frame). IsEntered arena c.as_mut_slice.result.now l c.in_ok-set.set.all c.enter_tree.new.set.all (placed arena)) (sym same) c.enter_tree.ensures.moved) c.in_ok-table.ensures
     (ap (λ (l : List Class). length l) (c.enter_tree.ensures.kept ∙ c.in_ok-set.ensures.kept) ∙ c.in_ok-first_classes.ensures.long)
 
 pub returns-clause-sorted : goal.returns-clause-sorted
-returns-clause-sorted c = record {
+returns-clause-sorted g c = record {
   classes = subst (AreClasses c.args.tree.now [] []) (sym (c.enter_tree.ensures.kept ∙ c.in_ok-set.ensures.kept)) c.in_ok-first_classes.ensures.each;
   linked = c.in_ok-waits.ensures;
 }
