@@ -27,6 +27,16 @@ fn items_grow_and_shrink(rt: &impl Abort, alloc: Global) -> Result<(), Fail> {
     Ok(())
 }
 
+fn items_are_handed_on(rt: &impl Abort, alloc: Global) -> Result<(), Fail> {
+    let mut list: ItemList<u64> = ItemList::new(alloc);
+    list.push(7)?;
+    list.push(9)?;
+    let items = list.into_vec();
+    expect(rt, items.len(), 2);
+    expect_items(rt, &ItemList::of(items), &[7, 9]);
+    Ok(())
+}
+
 fn numbers_grow_and_shrink(rt: &impl Abort, alloc: Global) -> Result<(), Fail> {
     let mut numbers = NumberList::new(alloc);
     numbers.push(MAX_NUMBER)?;
@@ -40,6 +50,7 @@ fn numbers_grow_and_shrink(rt: &impl Abort, alloc: Global) -> Result<(), Fail> {
 #[test]
 fn lists_grow_and_shrink(rt: HostRuntime) -> Result<(), Fail> {
     items_grow_and_shrink(&rt, rt.alloc())?;
+    items_are_handed_on(&rt, rt.alloc())?;
     numbers_grow_and_shrink(&rt, rt.alloc())
 }
 

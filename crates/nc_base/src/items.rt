@@ -50,6 +50,13 @@ impl<T> ItemList<T> {
         ItemList { items }
     }
 
+    /// The items as a vector, without a copy.
+    pub fn into_vec(self) -> Vec<T>
+        ensures { result.items ≡ self }
+    {
+        self.items
+    }
+
     /// How many items there are.
     pub fn len(&self) -> u32
         ensures { result ≡ length self.now }
