@@ -26,13 +26,15 @@ use Rattle.controller.specs.declared.status.Status.{Status}
 use Rattle.controller.specs.declared.status.Status.TheVariants as statuses
 use Rattle.controller.specs.declared.status.ScriptReason.{ScriptReason}
 use Rattle.controller.specs.declared.status.ScriptReason.TheVariants as refusals
-use Rattle.controller.specs.Words.{IsReplay, NamesProject, is_hyphen}
-use Rattle.controller.specs.Meaning.{Meaning, Replay, Path, Help, Version, Bad, Mean}
+use Rattle.controller.specs.Words.{IsReplay, IsBig, NamesProject, is_hyphen}
+use Rattle.controller.specs.Meaning.{Meaning, Replay, Path, Big, Help, Version, Bad, Mean}
 use Rattle.controller.specs.Texts.{bad_words_line, help_text, version_text}
 use Rattle.controller.specs.Refusal.{refusal_line, script_line}
 use Rattle.controller.specs.ScriptText.{IsScript, RefusesScript, IsScripted, ScriptedBy}
 use Rattle.controller.specs.ScheduleText.{IsSchedule, RefusesSchedule, IsScheduled, ScheduledBy}
-use Rattle.controller.specs.Asked.{HoldsProject, IsStep, IsLog, IsDefinition, HasNoProject, HasNoStep, HasNoScript, HasNoSchedule, IsRefused, IsWritten, IsRight, replayed}
+use Rattle.controller.specs.Asked.{HoldsProject, IsStep, IsLog, IsDefinition, IsCounted, HasNoProject, HasNoStep, HasNoScript, HasNoSchedule, HasNoCase, HasNoCaseScript, IsRefused, IsRefusedScript, IsWritten, IsRight, replayed}
+use Rattle.controller.specs.Counts.{counts_of, counts_line}
+use Rattle.controller.specs.Case.{case_project, case_script, case_limit}
 use Rattle.controller.specs.Answer.{ending_status}
 use Rattle.controller.specs.Told.{IsTold, NoneFailed, Completes}
 use Rattle.controller.specs.Outside.{Outside, Writes}
@@ -101,6 +103,7 @@ Gives held script schedule (All p edits channels) = GivesProject held p × Gives
 abbrev Read : (List ℕ → Option (List ℕ)) → Meaning → Given → Type 0
 Read holds (Replay name script schedule limit) g = Gives (holds name) (word_of holds script) (word_of holds schedule) g
 Read holds (Path name n) g = Gives (holds name) none_named none_named g
+Read holds (Big steps start) g = Gives (Some (case_project steps start)) (false, Some (case_script steps start)) none_named g
 Read holds Help g = g ≡ NoProject reasons.TooLong
 Read holds Version g = g ≡ NoProject reasons.TooLong
 Read holds (Bad place) g = g ≡ NoProject reasons.TooLong
@@ -126,6 +129,12 @@ record Ran (p : Project) (edits : List Edit) (channels : List ℕ) (limit : ℕ)
   run : IsRun p.entities edits limit (replayed p edits channels limit) ending
   says : Are s x (ending_status ending) (text_of (replayed p edits channels limit) ending)
 
+-- the project and the edits of a large case ran, and the line of the counts of their log is written
+record Counted (p : Project) (edits : List Edit) (steps start : ℕ) (s : Status) (x : List ℕ) : Type 0 where
+  ending : Ending
+  run : IsRun p.entities edits case_limit (replayed p edits [] case_limit) ending
+  says : Are s x statuses.Written (counts_line steps start ending (counts_of (replayed p edits [] case_limit)))
+
 -- the status and the text that follow from what the words mean and what the files give
 abbrev Follows : Meaning → Given → Status → List ℕ → Type 0
 Follows (Replay name script schedule limit) (All p edits channels) s x = Ran p edits channels limit s x
@@ -136,6 +145,10 @@ Follows (Path name n) (All p edits channels) s x = Absent p n s x ⊎ Present p 
 Follows (Path name n) (NoScript reason) s x = ⊥
 Follows (Path name n) (NoSchedule reason) s x = ⊥
 Follows (Path name n) (NoProject reason) s x = Are s x (statuses.ProjectRefused reason) (refusal_line reason)
+Follows (Big steps start) (All p edits channels) s x = Counted p edits steps start s x
+Follows (Big steps start) (NoScript reason) s x = Are s x (statuses.ScriptRefused reason) (script_line reason)
+Follows (Big steps start) (NoSchedule reason) s x = ⊥
+Follows (Big steps start) (NoProject reason) s x = Are s x (statuses.ProjectRefused reason) (refusal_line reason)
 Follows Help g s x = Are s x statuses.Written help_text
 Follows Version g s x = Are s x statuses.Written version_text
 Follows (Bad place) g s x = Are s x (statuses.BadWords place) (bad_words_line place)
@@ -212,10 +225,38 @@ of_path ws holds x d told is text = record {
   follows = inr (record { definition = d; step = is.step; says = (refl, text) });
 }
 
+of_case : (ws : List (List ℕ)) (holds : List ℕ → Option (List ℕ)) (x : List ℕ) → IsCounted ws x → Caused ws holds statuses.Written x
+of_case ws holds x is = record {
+  meaning = Big is.steps is.start;
+  means = is.asked;
+  given = All is.project is.edits [];
+  read = ((case_project is.steps is.start, refl, is.held), (case_script is.steps is.start, refl, is.scripted), refl);
+  follows = record {
+    ending = is.ending;
+    run = subst (λ (u : List Entry). IsRun is.project.entities is.edits case_limit u is.ending) is.replayed_so is.run;
+    says = (refl, is.says ∙ ap (λ (u : List Entry). counts_line is.steps is.start is.ending (counts_of u)) is.replayed_so);
+  };
+}
+
+of_no_case : (ws : List (List ℕ)) (holds : List ℕ → Option (List ℕ)) (x : List ℕ) (reason : ProjectReason) → HasNoCase ws reason → x ≡ refusal_line reason → Caused ws holds (statuses.ProjectRefused reason) x
+of_no_case ws holds x reason is text =
+    record { meaning = Big is.steps is.start; means = is.asked; given = NoProject reason; read = (case_project is.steps is.start, refl, is.refused); follows = (refl, text) }
+
+of_no_case_script : (ws : List (List ℕ)) (holds : List ℕ → Option (List ℕ)) (x : List ℕ) (reason : ScriptReason) → HasNoCaseScript ws reason → x ≡ script_line reason
+    → Caused ws holds (statuses.ScriptRefused reason) x
+of_no_case_script ws holds x reason is text = record {
+  meaning = Big is.steps is.start;
+  means = is.asked;
+  given = NoScript reason;
+  read = ((is.project, (case_project is.steps is.start, refl, is.held)), (refl, (case_script is.steps is.start, refl, is.refused)));
+  follows = (refl, text);
+}
+
 of_written : (ws : List (List ℕ)) (holds : List ℕ → Option (List ℕ)) (x : List ℕ) → IsTold ws holds → IsWritten ws holds x → Caused ws holds statuses.Written x
 of_written ws holds x told (inl is) = of_path ws holds x is.0 told is.1 is.2
-of_written ws holds x told (inr (inl is)) = record { meaning = Help; means = is.0; given = NoProject reasons.TooLong; read = refl; follows = (refl, is.1) }
-of_written ws holds x told (inr (inr is)) = record { meaning = Version; means = is.0; given = NoProject reasons.TooLong; read = refl; follows = (refl, is.1) }
+of_written ws holds x told (inr (inl is)) = of_case ws holds x is
+of_written ws holds x told (inr (inr (inl is))) = record { meaning = Help; means = is.0; given = NoProject reasons.TooLong; read = refl; follows = (refl, is.1) }
+of_written ws holds x told (inr (inr (inr is))) = record { meaning = Version; means = is.0; given = NoProject reasons.TooLong; read = refl; follows = (refl, is.1) }
 
 of_file : (ws : List (List ℕ)) (holds : List ℕ → Option (List ℕ)) (x : List ℕ) (reason : ProjectReason) (name : List ℕ) → NamesProject ws name → (bytes : List ℕ) × (holds name ≡ Some bytes) × Refuses bytes reason
     → x ≡ refusal_line reason → Caused ws holds (statuses.ProjectRefused reason) x
@@ -267,15 +308,26 @@ of_no_schedule ws holds x reason told is text = record {
   follows = (refl, text);
 }
 
+of_refused_project : (ws : List (List ℕ)) (holds : List ℕ → Option (List ℕ)) (x : List ℕ) (reason : ProjectReason) → IsTold ws holds → HasNoProject ws holds reason ⊎ HasNoCase ws reason → x ≡ refusal_line reason
+    → Caused ws holds (statuses.ProjectRefused reason) x
+of_refused_project ws holds x reason told (inl is) text = of_no_project ws holds x reason told is text
+of_refused_project ws holds x reason told (inr is) text = of_no_case ws holds x reason is text
+
 of_refused : (ws : List (List ℕ)) (holds : List ℕ → Option (List ℕ)) (x : List ℕ) (reason : ProjectReason) → IsTold ws holds → IsRefused ws holds reason → x ≡ refusal_line reason
     → Caused ws holds (statuses.ProjectRefused reason) x
 of_refused ws holds x (reasons.NoStep n) told is text = of_no_step ws holds x n told is text
-of_refused ws holds x reasons.TooLong told is text = of_no_project ws holds x reasons.TooLong told is text
-of_refused ws holds x (reasons.Read fault) told is text = of_no_project ws holds x (reasons.Read fault) told is text
-of_refused ws holds x (reasons.Attribute fault) told is text = of_no_project ws holds x (reasons.Attribute fault) told is text
-of_refused ws holds x (reasons.Store fault) told is text = of_no_project ws holds x (reasons.Store fault) told is text
-of_refused ws holds x (reasons.Tree fault) told is text = of_no_project ws holds x (reasons.Tree fault) told is text
-of_refused ws holds x (reasons.Definition n fault) told is text = of_no_project ws holds x (reasons.Definition n fault) told is text
+of_refused ws holds x reasons.TooLong told is text = of_refused_project ws holds x reasons.TooLong told is text
+of_refused ws holds x (reasons.Read fault) told is text = of_refused_project ws holds x (reasons.Read fault) told is text
+of_refused ws holds x (reasons.Attribute fault) told is text = of_refused_project ws holds x (reasons.Attribute fault) told is text
+of_refused ws holds x (reasons.Store fault) told is text = of_refused_project ws holds x (reasons.Store fault) told is text
+of_refused ws holds x (reasons.Tree fault) told is text = of_refused_project ws holds x (reasons.Tree fault) told is text
+of_refused ws holds x (reasons.Definition n fault) told is text = of_refused_project ws holds x (reasons.Definition n fault) told is text
+
+of_refused_script : (ws : List (List ℕ)) (holds : List ℕ → Option (List ℕ)) (x : List ℕ) (reason : ScriptReason) → IsTold ws holds → IsRefusedScript ws holds reason → x ≡ script_line reason
+    → Caused ws holds (statuses.ScriptRefused reason) x
+of_refused_script ws holds x reason told (inl is) text = of_no_script ws holds x reason told is text
+of_refused_script ws holds x reason told (inr (inl is)) text = of_no_schedule ws holds x reason told is text
+of_refused_script ws holds x reason told (inr (inr is)) text = of_no_case_script ws holds x reason is text
 
 caused : (ws : List (List ℕ)) (holds : List ℕ → Option (List ℕ)) (s : Status) (x : List ℕ) → IsTold ws holds → IsRight ws holds s x → Caused ws holds s x
 caused ws holds statuses.Done x told is = of_log ws holds statuses.Done x is.0 endings.Done told is.1 refl is.2
@@ -284,8 +336,7 @@ caused ws holds statuses.RunLimit x told is = of_log ws holds statuses.RunLimit 
 caused ws holds statuses.Written x told is = of_written ws holds x told is
 caused ws holds (statuses.BadWords place) x told is = record { meaning = Bad place; means = is.0; given = NoProject reasons.TooLong; read = refl; follows = (refl, is.1) }
 caused ws holds (statuses.ProjectRefused reason) x told is = of_refused ws holds x reason told is.0 is.1
-caused ws holds (statuses.ScriptRefused reason) x told (inl is, text) = of_no_script ws holds x reason told is text
-caused ws holds (statuses.ScriptRefused reason) x told (inr is, text) = of_no_schedule ws holds x reason told is text
+caused ws holds (statuses.ScriptRefused reason) x told is = of_refused_script ws holds x reason told is.0 is.1
 caused ws holds statuses.ReadFault x told is = absurd is
 caused ws holds statuses.WriteFault x told is = absurd is
 caused ws holds statuses.NoMemory x told is = absurd is
@@ -386,6 +437,7 @@ gives_one laws held script schedule (All p edits channels) (All q others turns) 
 read_one : Laws → (holds : List ℕ → Option (List ℕ)) (m : Meaning) (g f : Given) → Read holds m g → Read holds m f → g ≡ f
 read_one laws holds (Replay name script schedule limit) g f h k = gives_one laws (holds name) (word_of holds script) (word_of holds schedule) g f h k
 read_one laws holds (Path name n) g f h k = gives_one laws (holds name) none_named none_named g f h k
+read_one laws holds (Big steps start) g f h k = gives_one laws (Some (case_project steps start)) (false, Some (case_script steps start)) none_named g f h k
 read_one laws holds Help g f h k = h ∙ sym k
 read_one laws holds Version g f h k = h ∙ sym k
 read_one laws holds (Bad place) g f h k = h ∙ sym k
@@ -424,6 +476,12 @@ agree_run p edits channels limit s t x y h k =
     let same : k.ending ≡ h.ending = one_ending (rules_of p.entities edits) limit log k.ending h.ending k.run.ends h.run.ends in
     both_are s t _ x y _ h.says (k.says.0 ∙ ap ending_status same, k.says.1 ∙ ap (λ (ending : Ending). text_of log ending) same)
 
+agree_case : (p : Project) (edits : List Edit) (steps start : ℕ) (s t : Status) (x y : List ℕ) → Counted p edits steps start s x → Counted p edits steps start t y → Are s x t y
+agree_case p edits steps start s t x y h k =
+    let log = replayed p edits [] case_limit in
+    let same : k.ending ≡ h.ending = one_ending (rules_of p.entities edits) case_limit log k.ending h.ending k.run.ends h.run.ends in
+    both_are s t _ x y _ h.says (k.says.0, k.says.1 ∙ ap (λ (ending : Ending). counts_line steps start ending (counts_of log)) same)
+
 follow_one : (m : Meaning) (g : Given) (s t : Status) (x y : List ℕ) → Follows m g s x → Follows m g t y → Are s x t y
 follow_one (Replay name script schedule limit) (All p edits channels) s t x y h k = agree_run p edits channels limit s t x y h k
 follow_one (Replay name script schedule limit) (NoSchedule reason) s t x y h k = both_are s t _ x y _ h k
@@ -433,6 +491,10 @@ follow_one (Path name n) (All p edits channels) s t x y h k = agree_step p n s t
 follow_one (Path name n) (NoScript reason) s t x y h k = absurd h
 follow_one (Path name n) (NoSchedule reason) s t x y h k = absurd h
 follow_one (Path name n) (NoProject reason) s t x y h k = both_are s t _ x y _ h k
+follow_one (Big steps start) (All p edits channels) s t x y h k = agree_case p edits steps start s t x y h k
+follow_one (Big steps start) (NoScript reason) s t x y h k = both_are s t _ x y _ h k
+follow_one (Big steps start) (NoSchedule reason) s t x y h k = absurd h
+follow_one (Big steps start) (NoProject reason) s t x y h k = both_are s t _ x y _ h k
 follow_one Help g s t x y h k = both_are s t _ x y _ h k
 follow_one Version g s t x y h k = both_are s t _ x y _ h k
 follow_one (Bad place) g s t x y h k = both_are s t _ x y _ h k

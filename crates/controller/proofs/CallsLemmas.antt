@@ -78,6 +78,7 @@ run_of_files holds read held before mid late now name script schedule limit p ed
 run_of_files holds read held before mid late now name script schedule limit p edits (Ok answers.Version) file kept scripted same first second is = absurd is
 run_of_files holds read held before mid late now name script schedule limit p edits (Ok (answers.Refused reason)) file kept scripted same first second is = absurd is
 run_of_files holds read held before mid late now name script schedule limit p edits (Ok (answers.Shown d)) file kept scripted same first second is = absurd is
+run_of_files holds read held before mid late now name script schedule limit p edits (Ok (answers.Counted n from ending counts)) file kept scripted same first second is = absurd is
 run_of_files holds read held before mid late now name script schedule limit p edits (Err stops.ReadFault) file kept scripted same first second is =
     inr (inr (is.0, rose_later (before schedule) (late schedule) (now schedule) (le_later (before schedule) (mid schedule) (late schedule) first second) is.1))
 run_of_files holds read held before mid late now name script schedule limit p edits (Err stops.NoMemory) file kept scripted same first second is = tt

@@ -7,9 +7,10 @@ use Rattle.std.proofs.lemmas.Slice.Eq.{bytes_eq-Decides}
 use Rattle.std.proofs.lemmas.Bool.{eqb-true, eq-eqb, leb-true}
 use Rattle.std.proofs.lemmas.List.{take_all}
 use Rattle.run_log.specs.declared.entry.TheConstants.{MAX_ENTRIES}
-use Rattle.controller.specs.declared.command.TheConstants.{LIMIT_DIGITS}
+use Rattle.big_case.specs.declared.workplans.TheConstants.{MAX_STEPS}
+use Rattle.controller.specs.declared.command.TheConstants.{LIMIT_DIGITS, CASE_DIGITS, MAX_START}
 use Rattle.controller.specs.Numerals.{value_of, is_number}
-use Rattle.controller.specs.Words.{Form, begins, is_line, AreBadAt, is_name, is_limit, is_step, replay_line, path_line, help_line, version_line, IsReplay, IsPath}
+use Rattle.controller.specs.Words.{Form, begins, is_line, AreBadAt, is_name, is_limit, is_step, is_steps, is_start, replay_line, path_line, big_line, help_line, version_line, IsReplay, IsPath, IsBig}
 use Rattle.controller.specs.Commands.{is_some_of, has_word, HasWord}
 
 -- the word is of the form that stands there, if one does
@@ -86,37 +87,85 @@ not_line ws forms n fit differ =
     fewer : (n m : ℕ) → n ≤ m → (n < m) ⊎ (n ≡ m)
     fewer n m le = grind arith
 
-pub none_of : (a b c d : Bool) → a ≡ false → b ≡ false → c ≡ false → d ≡ false → (a || (b || (c || (d || false)))) ≡ false
-none_of a b c d p q r t = rw (p, q, r, t) refl
+pub none_of : (a b c d f : Bool) → a ≡ false → b ≡ false → c ≡ false → d ≡ false → f ≡ false → (a || (b || (c || (d || (f || false))))) ≡ false
+none_of a b c d f p q r t u = rw (p, q, r, t, u) refl
 
-pub some_of : (a b c d : Bool) → (a ≡ true) ⊎ ((b ≡ true) ⊎ ((c ≡ true) ⊎ (d ≡ true))) → (a || (b || (c || (d || false)))) ≡ true
-some_of true b c d e = refl
-some_of false true c d e = refl
-some_of false false true d e = refl
-some_of false false false true e = refl
-some_of false false false false (inl e) = absurd (cc)
-some_of false false false false (inr (inl e)) = absurd (cc)
-some_of false false false false (inr (inr (inl e))) = absurd (cc)
-some_of false false false false (inr (inr (inr e))) = absurd (cc)
+-- one of five tests holds
+abbrev pub OneHolds : Bool → Bool → Bool → Bool → Bool → Type 0
+OneHolds a b c d f = (a ≡ true) ⊎ ((b ≡ true) ⊎ ((c ≡ true) ⊎ ((d ≡ true) ⊎ (f ≡ true))))
 
--- the longest of the four fits is the place that is bad
-bad_at : (ws : List (List ℕ)) (a b c d n : ℕ) → AreFit ws replay_line a → AreFit ws path_line b → AreFit ws help_line c → AreFit ws version_line d
-    → is_line ws replay_line ≡ false → is_line ws path_line ≡ false → is_line ws help_line ≡ false → is_line ws version_line ≡ false
-    → a ≤ n → b ≤ n → c ≤ n → d ≤ n → ((n ≡ a) ⊎ ((n ≡ b) ⊎ ((n ≡ c) ⊎ (n ≡ d)))) → AreBadAt ws n
-bad_at ws a b c d n fit_a fit_b fit_c fit_d no_a no_b no_c no_d le_a le_b le_c le_d which = record {
-  no_line = none_of (is_line ws replay_line) (is_line ws path_line) (is_line ws help_line) (is_line ws version_line) no_a no_b no_c no_d;
-  within = elim which [
-    | inl e ↦ omega (arith, fit_a.within)
-    | inr later ↦ elim later [ inl e ↦ omega (arith, fit_b.within) | inr last ↦ elim last [ inl e ↦ omega (arith, fit_c.within) | inr e ↦ omega (arith, fit_d.within) ] ]
-  ];
-  begun = some_of (begins (take n ws) replay_line) (begins (take n ws) path_line) (begins (take n ws) help_line) (begins (take n ws) version_line) (elim which [
-    | inl e ↦ inl (rw e fit_a.begun)
-    | inr later ↦ inr (elim later [ inl e ↦ inl (rw e fit_b.begun) | inr last ↦ inr (elim last [ inl e ↦ inl (rw e fit_c.begun) | inr e ↦ inr (rw e fit_d.begun) ]) ])
-  ]);
-  ended = λ lt. none_of (begins (take (n + 1) ws) replay_line) (begins (take (n + 1) ws) path_line) (begins (take (n + 1) ws) help_line) (begins (take (n + 1) ws) version_line)
-      (no_begin ws replay_line a (n + 1) fit_a (omega arith) (omega arith)) (no_begin ws path_line b (n + 1) fit_b (omega arith) (omega arith))
-      (no_begin ws help_line c (n + 1) fit_c (omega arith) (omega arith)) (no_begin ws version_line d (n + 1) fit_d (omega arith) (omega arith));
-}
+pub some_of : (a b c d f : Bool) → OneHolds a b c d f → (a || (b || (c || (d || (f || false))))) ≡ true
+some_of true b c d f e = refl
+some_of false true c d f e = refl
+some_of false false true d f e = refl
+some_of false false false true f e = refl
+some_of false false false false true e = refl
+some_of false false false false false (inl e) = absurd (cc)
+some_of false false false false false (inr (inl e)) = absurd (cc)
+some_of false false false false false (inr (inr (inl e))) = absurd (cc)
+some_of false false false false false (inr (inr (inr (inl e)))) = absurd (cc)
+some_of false false false false false (inr (inr (inr (inr e)))) = absurd (cc)
+
+-- so many words begin each of the five lines, no more of them do, and none of the lines is whole
+record FitAll (ws : List (List ℕ)) (a b c d f : ℕ) : Type 0 where
+  replay : AreFit ws replay_line a
+  path : AreFit ws path_line b
+  big : AreFit ws big_line c
+  help : AreFit ws help_line d
+  version : AreFit ws version_line f
+  no_replay : is_line ws replay_line ≡ false
+  no_path : is_line ws path_line ≡ false
+  no_big : is_line ws big_line ≡ false
+  no_help : is_line ws help_line ≡ false
+  no_version : is_line ws version_line ≡ false
+
+-- n is the greatest of five numbers
+record IsMost (n a b c d f : ℕ) : Type 0 where
+  le_a : a ≤ n
+  le_b : b ≤ n
+  le_c : c ≤ n
+  le_d : d ≤ n
+  le_f : f ≤ n
+  which : (n ≡ a) ⊎ ((n ≡ b) ⊎ ((n ≡ c) ⊎ ((n ≡ d) ⊎ (n ≡ f))))
+
+most_within : (ws : List (List ℕ)) (a b c d f n : ℕ) → FitAll ws a b c d f → (n ≡ a) ⊎ ((n ≡ b) ⊎ ((n ≡ c) ⊎ ((n ≡ d) ⊎ (n ≡ f)))) → n ≤ length ws
+most_within ws a b c d f n fit (inl e) = omega (arith, fit.replay.within)
+most_within ws a b c d f n fit (inr (inl e)) = omega (arith, fit.path.within)
+most_within ws a b c d f n fit (inr (inr (inl e))) = omega (arith, fit.big.within)
+most_within ws a b c d f n fit (inr (inr (inr (inl e)))) = omega (arith, fit.help.within)
+most_within ws a b c d f n fit (inr (inr (inr (inr e)))) = omega (arith, fit.version.within)
+
+begun_at : (ws : List (List ℕ)) (forms : List Form) (n m : ℕ) → n ≡ m → begins (take m ws) forms ≡ true → begins (take n ws) forms ≡ true
+begun_at ws forms n m e begun = rw e begun
+
+most_begun : (ws : List (List ℕ)) (a b c d f n : ℕ) → FitAll ws a b c d f → (n ≡ a) ⊎ ((n ≡ b) ⊎ ((n ≡ c) ⊎ ((n ≡ d) ⊎ (n ≡ f))))
+    → OneHolds (begins (take n ws) replay_line) (begins (take n ws) path_line) (begins (take n ws) big_line) (begins (take n ws) help_line) (begins (take n ws) version_line)
+most_begun ws a b c d f n fit (inl e) = inl (begun_at ws replay_line n a e fit.replay.begun)
+most_begun ws a b c d f n fit (inr (inl e)) = inr (inl (begun_at ws path_line n b e fit.path.begun))
+most_begun ws a b c d f n fit (inr (inr (inl e))) = inr (inr (inl (begun_at ws big_line n c e fit.big.begun)))
+most_begun ws a b c d f n fit (inr (inr (inr (inl e)))) = inr (inr (inr (inl (begun_at ws help_line n d e fit.help.begun))))
+most_begun ws a b c d f n fit (inr (inr (inr (inr e)))) = inr (inr (inr (inr (begun_at ws version_line n f e fit.version.begun))))
+
+-- the longest of the five fits is the place that is bad
+bad_at : (ws : List (List ℕ)) (a b c d f n : ℕ) → FitAll ws a b c d f → IsMost n a b c d f → AreBadAt ws n
+bad_at ws a b c d f n fit most =
+    let le_a = most.le_a in
+    let le_b = most.le_b in
+    let le_c = most.le_c in
+    let le_d = most.le_d in
+    let le_f = most.le_f in
+    record {
+      no_line =
+          none_of (is_line ws replay_line) (is_line ws path_line) (is_line ws big_line) (is_line ws help_line) (is_line ws version_line) fit.no_replay fit.no_path fit.no_big fit.no_help fit.no_version;
+      within = most_within ws a b c d f n fit most.which;
+      begun =
+          some_of (begins (take n ws) replay_line) (begins (take n ws) path_line) (begins (take n ws) big_line) (begins (take n ws) help_line) (begins (take n ws) version_line)
+          (most_begun ws a b c d f n fit most.which);
+      ended = λ lt. none_of (begins (take (n + 1) ws) replay_line) (begins (take (n + 1) ws) path_line) (begins (take (n + 1) ws) big_line) (begins (take (n + 1) ws) help_line)
+          (begins (take (n + 1) ws) version_line) (no_begin ws replay_line a (n + 1) fit.replay (omega arith) (omega arith)) (no_begin ws path_line b (n + 1) fit.path (omega arith) (omega arith))
+          (no_begin ws big_line c (n + 1) fit.big (omega arith) (omega arith)) (no_begin ws help_line d (n + 1) fit.help (omega arith) (omega arith))
+          (no_begin ws version_line f (n + 1) fit.version (omega arith) (omega arith));
+    }
 
 short : (b : Bool) → (b && false) ≡ true → ⊥
 short true e = absurd (cc)
@@ -159,12 +208,29 @@ path_shape (a ∷ b ∷ n ∷ x ∷ ws) e =
     let long : suc (suc (suc (suc (length ws)))) ≡ 3 = eqb-true (suc (suc (suc (suc (length ws))))) 3 (both (begins (a ∷ b ∷ n ∷ x ∷ ws) path_line) (suc (suc (suc (suc (length ws)))) == 3) e).1 in
     absurd (omega arith)
 
-pub one_of : (a b c d : Bool) → (a || (b || (c || (d || false)))) ≡ true → (a ≡ true) ⊎ ((b ≡ true) ⊎ ((c ≡ true) ⊎ (d ≡ true)))
-one_of true b c d e = inl refl
-one_of false true c d e = inr (inl refl)
-one_of false false true d e = inr (inr (inl refl))
-one_of false false false true e = inr (inr (inr refl))
-one_of false false false false e = absurd (cc)
+-- what stands in the words of a large case
+pub big_shape : (ws : List (List ℕ)) → is_line ws big_line ≡ true
+    → (steps : List ℕ) × (start : List ℕ) × (slice_get ws 1 ≡ Some steps) × (slice_get ws 2 ≡ Some start) × (is_steps steps ≡ true) × (is_start start ≡ true) × IsBig ws (value_of steps) (value_of start)
+big_shape [] e = absurd (cc)
+big_shape (a ∷ []) e = absurd (short (begins (a ∷ []) big_line) e)
+big_shape (a ∷ b ∷ []) e = absurd (short (begins (a ∷ b ∷ []) big_line) e)
+big_shape (a ∷ b ∷ n ∷ []) e =
+    let h = both (begins (a ∷ b ∷ n ∷ []) big_line) true e in
+    let h1 = both (bytes_eq (codes "big") a) (begins (b ∷ n ∷ []) (is_steps ∷ is_start ∷ [])) h.0 in
+    let h2 = both (is_steps b) (begins (n ∷ []) (is_start ∷ [])) h1.1 in
+    let h3 = both (is_start n) true h2.1 in
+    (b, n, refl, refl, h2.0, h3.0, (e, refl, refl))
+big_shape (a ∷ b ∷ n ∷ x ∷ ws) e =
+    let long : suc (suc (suc (suc (length ws)))) ≡ 3 = eqb-true (suc (suc (suc (suc (length ws))))) 3 (both (begins (a ∷ b ∷ n ∷ x ∷ ws) big_line) (suc (suc (suc (suc (length ws)))) == 3) e).1 in
+    absurd (omega arith)
+
+pub one_of : (a b c d f : Bool) → (a || (b || (c || (d || (f || false))))) ≡ true → OneHolds a b c d f
+one_of true b c d f e = inl refl
+one_of false true c d f e = inr (inl refl)
+one_of false false true d f e = inr (inr (inl refl))
+one_of false false false true f e = inr (inr (inr (inl refl)))
+one_of false false false false true e = inr (inr (inr (inr refl)))
+one_of false false false false false e = absurd (cc)
 
 -- so many words stand there and begin the line
 pub record AreBegun (ws : List (List ℕ)) (forms : List Form) (n : ℕ) : Type 0 where
@@ -234,43 +300,134 @@ no_line_at_0 ws form forms fit = not_line ws (form ∷ forms) 0 fit (λ all whol
 pub bad_replay : (ws : List (List ℕ)) (n : ℕ) → has_word ws 0 (bytes_eq (codes "replay")) ≡ true → AreFit ws replay_line n → is_line ws replay_line ≡ false → AreBadAt ws n
 bad_replay ws n first fit not =
     let path = starts_other ws (codes "replay") (codes "path") (is_name ∷ is_step ∷ []) first refl in
+    let big = starts_other ws (codes "replay") (codes "big") (is_steps ∷ is_start ∷ []) first refl in
     let help = starts_other ws (codes "replay") (codes "--help") [] first refl in
     let version = starts_other ws (codes "replay") (codes "--version") [] first refl in
-    bad_at ws n 0 0 0 n fit path help version not (no_line_at_0 ws _ _ path) (no_line_at_0 ws _ _ help) (no_line_at_0 ws _ _ version) (omega arith) (omega arith) (omega arith) (omega arith) (inl refl)
+    bad_at ws n 0 0 0 0 n
+    (record {
+      replay = fit;
+      path = path;
+      big = big;
+      help = help;
+      version = version;
+      no_replay = not;
+      no_path = no_line_at_0 ws _ _ path;
+      no_big = no_line_at_0 ws _ _ big;
+      no_help = no_line_at_0 ws _ _ help;
+      no_version = no_line_at_0 ws _ _ version;
+    })
+    (record { le_a = omega arith; le_b = omega arith; le_c = omega arith; le_d = omega arith; le_f = omega arith; which = inl refl })
 
 pub bad_path : (ws : List (List ℕ)) (n : ℕ) → has_word ws 0 (bytes_eq (codes "path")) ≡ true → AreFit ws path_line n → is_line ws path_line ≡ false → AreBadAt ws n
 bad_path ws n first fit not =
     let replay = starts_other ws (codes "path") (codes "replay") (is_name ∷ is_name ∷ is_name ∷ is_limit ∷ []) first refl in
+    let big = starts_other ws (codes "path") (codes "big") (is_steps ∷ is_start ∷ []) first refl in
     let help = starts_other ws (codes "path") (codes "--help") [] first refl in
     let version = starts_other ws (codes "path") (codes "--version") [] first refl in
-    bad_at ws 0 n 0 0 n replay fit help version (no_line_at_0 ws _ _ replay) not (no_line_at_0 ws _ _ help) (no_line_at_0 ws _ _ version) (omega arith) (omega arith) (omega arith) (omega arith) (inr (inl refl))
+    bad_at ws 0 n 0 0 0 n
+    (record {
+      replay = replay;
+      path = fit;
+      big = big;
+      help = help;
+      version = version;
+      no_replay = no_line_at_0 ws _ _ replay;
+      no_path = not;
+      no_big = no_line_at_0 ws _ _ big;
+      no_help = no_line_at_0 ws _ _ help;
+      no_version = no_line_at_0 ws _ _ version;
+    })
+    (record { le_a = omega arith; le_b = omega arith; le_c = omega arith; le_d = omega arith; le_f = omega arith; which = inr (inl refl) })
+
+pub bad_big : (ws : List (List ℕ)) (n : ℕ) → has_word ws 0 (bytes_eq (codes "big")) ≡ true → AreFit ws big_line n → is_line ws big_line ≡ false → AreBadAt ws n
+bad_big ws n first fit not =
+    let replay = starts_other ws (codes "big") (codes "replay") (is_name ∷ is_name ∷ is_name ∷ is_limit ∷ []) first refl in
+    let path = starts_other ws (codes "big") (codes "path") (is_name ∷ is_step ∷ []) first refl in
+    let help = starts_other ws (codes "big") (codes "--help") [] first refl in
+    let version = starts_other ws (codes "big") (codes "--version") [] first refl in
+    bad_at ws 0 0 n 0 0 n
+    (record {
+      replay = replay;
+      path = path;
+      big = fit;
+      help = help;
+      version = version;
+      no_replay = no_line_at_0 ws _ _ replay;
+      no_path = no_line_at_0 ws _ _ path;
+      no_big = not;
+      no_help = no_line_at_0 ws _ _ help;
+      no_version = no_line_at_0 ws _ _ version;
+    })
+    (record { le_a = omega arith; le_b = omega arith; le_c = omega arith; le_d = omega arith; le_f = omega arith; which = inr (inr (inl refl)) })
 
 pub bad_help : (ws : List (List ℕ)) (n : ℕ) → has_word ws 0 (bytes_eq (codes "--help")) ≡ true → AreFit ws help_line n → is_line ws help_line ≡ false → AreBadAt ws n
 bad_help ws n first fit not =
     let replay = starts_other ws (codes "--help") (codes "replay") (is_name ∷ is_name ∷ is_name ∷ is_limit ∷ []) first refl in
     let path = starts_other ws (codes "--help") (codes "path") (is_name ∷ is_step ∷ []) first refl in
+    let big = starts_other ws (codes "--help") (codes "big") (is_steps ∷ is_start ∷ []) first refl in
     let version = starts_other ws (codes "--help") (codes "--version") [] first refl in
-    bad_at ws 0 0 n 0 n replay path fit version (no_line_at_0 ws _ _ replay) (no_line_at_0 ws _ _ path) not (no_line_at_0 ws _ _ version) (omega arith) (omega arith) (omega arith) (omega arith) (inr (inr (inl refl)))
+    bad_at ws 0 0 0 n 0 n
+    (record {
+      replay = replay;
+      path = path;
+      big = big;
+      help = fit;
+      version = version;
+      no_replay = no_line_at_0 ws _ _ replay;
+      no_path = no_line_at_0 ws _ _ path;
+      no_big = no_line_at_0 ws _ _ big;
+      no_help = not;
+      no_version = no_line_at_0 ws _ _ version;
+    })
+    (record { le_a = omega arith; le_b = omega arith; le_c = omega arith; le_d = omega arith; le_f = omega arith; which = inr (inr (inr (inl refl))) })
 
 pub bad_version : (ws : List (List ℕ)) (n : ℕ) → has_word ws 0 (bytes_eq (codes "--version")) ≡ true → AreFit ws version_line n → is_line ws version_line ≡ false → AreBadAt ws n
 bad_version ws n first fit not =
     let replay = starts_other ws (codes "--version") (codes "replay") (is_name ∷ is_name ∷ is_name ∷ is_limit ∷ []) first refl in
     let path = starts_other ws (codes "--version") (codes "path") (is_name ∷ is_step ∷ []) first refl in
+    let big = starts_other ws (codes "--version") (codes "big") (is_steps ∷ is_start ∷ []) first refl in
     let help = starts_other ws (codes "--version") (codes "--help") [] first refl in
-    bad_at ws 0 0 0 n n replay path help fit (no_line_at_0 ws _ _ replay) (no_line_at_0 ws _ _ path) (no_line_at_0 ws _ _ help) not (omega arith) (omega arith) (omega arith) (omega arith) (inr (inr (inr refl)))
+    bad_at ws 0 0 0 0 n n
+    (record {
+      replay = replay;
+      path = path;
+      big = big;
+      help = help;
+      version = fit;
+      no_replay = no_line_at_0 ws _ _ replay;
+      no_path = no_line_at_0 ws _ _ path;
+      no_big = no_line_at_0 ws _ _ big;
+      no_help = no_line_at_0 ws _ _ help;
+      no_version = not;
+    })
+    (record { le_a = omega arith; le_b = omega arith; le_c = omega arith; le_d = omega arith; le_f = omega arith; which = inr (inr (inr (inr refl))) })
 
 no_first : (ws : List (List ℕ)) (form : Form) (forms : List Form) → has_word ws 0 form ≡ false → AreFit ws (form ∷ forms) 0
 no_first ws form forms not = fit_before ws (form ∷ forms) 0 form refl not (begun_none ws (form ∷ forms))
 
 -- words of which the first is that of no line are bad from the beginning
-pub bad_first : (ws : List (List ℕ)) → has_word ws 0 (bytes_eq (codes "replay")) ≡ false → has_word ws 0 (bytes_eq (codes "path")) ≡ false → has_word ws 0 (bytes_eq (codes "--help")) ≡ false
-    → has_word ws 0 (bytes_eq (codes "--version")) ≡ false → AreBadAt ws 0
-bad_first ws r p h v =
+pub bad_first : (ws : List (List ℕ)) → has_word ws 0 (bytes_eq (codes "replay")) ≡ false → has_word ws 0 (bytes_eq (codes "path")) ≡ false → has_word ws 0 (bytes_eq (codes "big")) ≡ false
+    → has_word ws 0 (bytes_eq (codes "--help")) ≡ false → has_word ws 0 (bytes_eq (codes "--version")) ≡ false → AreBadAt ws 0
+bad_first ws r p b h v =
     let replay = no_first ws (bytes_eq (codes "replay")) (is_name ∷ is_name ∷ is_name ∷ is_limit ∷ []) r in
     let path = no_first ws (bytes_eq (codes "path")) (is_name ∷ is_step ∷ []) p in
+    let big = no_first ws (bytes_eq (codes "big")) (is_steps ∷ is_start ∷ []) b in
     let help = no_first ws (bytes_eq (codes "--help")) [] h in
     let version = no_first ws (bytes_eq (codes "--version")) [] v in
-    bad_at ws 0 0 0 0 0 replay path help version (no_line_at_0 ws _ _ replay) (no_line_at_0 ws _ _ path) (no_line_at_0 ws _ _ help) (no_line_at_0 ws _ _ version) (omega arith) (omega arith) (omega arith) (omega arith) (inl refl)
+    bad_at ws 0 0 0 0 0 0
+    (record {
+      replay = replay;
+      path = path;
+      big = big;
+      help = help;
+      version = version;
+      no_replay = no_line_at_0 ws _ _ replay;
+      no_path = no_line_at_0 ws _ _ path;
+      no_big = no_line_at_0 ws _ _ big;
+      no_help = no_line_at_0 ws _ _ help;
+      no_version = no_line_at_0 ws _ _ version;
+    })
+    (record { le_a = omega arith; le_b = omega arith; le_c = omega arith; le_d = omega arith; le_f = omega arith; which = inl refl })
 
 -- the words begin a line and go on otherwise, before its end or behind it: they aren't the line, and this is how far they fit
 pub stops_before : (ws : List (List ℕ)) (forms : List Form) (n : ℕ) (form : Form) → slice_get forms n ≡ Some form → n < length forms → has_word ws n form ≡ false → AreBegun ws forms n
@@ -308,6 +465,15 @@ path_2 ws name has begun = begun_more ws path_line 1 is_name name refl has begun
 
 pub path_3 : (ws : List (List ℕ)) (last : List ℕ) → HasWord ws 2 is_step last → AreBegun ws path_line 2 → AreBegun ws path_line 3
 path_3 ws last has begun = begun_more ws path_line 2 is_step last refl has begun
+
+pub big_1 : (ws : List (List ℕ)) → has_word ws 0 (bytes_eq (codes "big")) ≡ true → AreBegun ws big_line 1
+big_1 ws first = let h = word_of ws 0 (bytes_eq (codes "big")) first in begun_more ws big_line 0 (bytes_eq (codes "big")) h.0 refl h.1 (begun_none ws big_line)
+
+pub big_2 : (ws : List (List ℕ)) (steps : List ℕ) → HasWord ws 1 is_steps steps → AreBegun ws big_line 1 → AreBegun ws big_line 2
+big_2 ws steps has begun = begun_more ws big_line 1 is_steps steps refl has begun
+
+pub big_3 : (ws : List (List ℕ)) (start : List ℕ) → HasWord ws 2 is_start start → AreBegun ws big_line 2 → AreBegun ws big_line 3
+big_3 ws start has begun = begun_more ws big_line 2 is_start start refl has begun
 
 pub help_1 : (ws : List (List ℕ)) → has_word ws 0 (bytes_eq (codes "--help")) ≡ true → AreBegun ws help_line 1
 help_1 ws first = let h = word_of ws 0 (bytes_eq (codes "--help")) first in begun_more ws help_line 0 (bytes_eq (codes "--help")) h.0 refl h.1 (begun_none ws help_line)
@@ -355,6 +521,31 @@ is_path ws name last n begun short at_1 at_2 value =
     let e_n : value_of shape.1 ≡ n = ap value_of e_last ∙ sym value in
     subst (λ (m : List ℕ). IsPath ws m n) e_name (subst (λ (v : ℕ). IsPath ws shape.0 v) e_n shape.6)
 
+pub is_big : (ws : List (List ℕ)) (w v : List ℕ) (steps start : ℕ) → AreBegun ws big_line 3 → length ws ≤ 3 → HasWord ws 1 is_steps w → HasWord ws 2 is_start v → steps ≡ value_of w → start ≡ value_of v
+    → IsBig ws steps start
+is_big ws w v steps start begun short at_1 at_2 value_1 value_2 =
+    let shape = big_shape ws (begun_line ws big_line 3 begun short refl) in
+    let e_steps : value_of shape.0 ≡ steps = ap value_of (same_word shape.0 w (sym shape.2 ∙ at_1.0)) ∙ sym value_1 in
+    let e_start : value_of shape.1 ≡ start = ap value_of (same_word shape.1 v (sym shape.3 ∙ at_2.0)) ∙ sym value_2 in
+    subst (λ (n : ℕ). IsBig ws n start) e_steps (subst (λ (n : ℕ). IsBig ws (value_of shape.0) n) e_start shape.6)
+
+-- the numbers of a large case are in their ranges
+pub case_within : (ws : List (List ℕ)) (steps start : ℕ) → IsBig ws steps start → (1 ≤ steps) × (steps ≤ MAX_STEPS) × (start ≤ MAX_START)
+case_within [] steps start is = absurd is
+case_within (a ∷ []) steps start is = absurd is
+case_within (a ∷ b ∷ []) steps start is = absurd is
+case_within (a ∷ b ∷ l ∷ []) steps start is =
+    let h = both (begins (a ∷ b ∷ l ∷ []) big_line) true is.0 in
+    let h1 = both (bytes_eq (codes "big") a) (begins (b ∷ l ∷ []) (is_steps ∷ is_start ∷ [])) h.0 in
+    let h2 = both (is_steps b) (begins (l ∷ []) (is_start ∷ [])) h1.1 in
+    let h3 = both (is_start l) true h2.1 in
+    let most = both (is_number CASE_DIGITS b && nat_le 1 (value_of b)) (nat_le (value_of b) MAX_STEPS) h2.0 in
+    let least = both (is_number CASE_DIGITS b) (nat_le 1 (value_of b)) most.0 in
+    let far = both (is_number CASE_DIGITS l) (nat_le (value_of l) MAX_START) h3.0 in
+    let range : (1 ≤ steps) × (steps ≤ MAX_STEPS) = subst (λ (n : ℕ). (1 ≤ n) × (n ≤ MAX_STEPS)) is.1 (leb-true 1 (value_of b) least.1, leb-true (value_of b) MAX_STEPS most.1) in
+    (range.0, range.1, subst (λ (n : ℕ). n ≤ MAX_START) is.2 (leb-true (value_of l) MAX_START far.1))
+case_within (a ∷ b ∷ l ∷ x ∷ ws) steps start is = absurd is
+
 -- words of a replay that go on otherwise at some place
 pub replay_stops_2 : (ws : List (List ℕ)) (name : List ℕ) (bad : ℕ) → has_word ws 0 (bytes_eq (codes "replay")) ≡ true → HasWord ws 1 is_name name → (bad ≡ 2) × (has_word ws 2 is_name ≡ false)
     → AreBadAt ws bad
@@ -395,6 +586,25 @@ pub path_stops_3 : (ws : List (List ℕ)) (name last : List ℕ) (bad : ℕ) →
 path_stops_3 ws name last bad first at_1 at_2 stop =
     let s = stops_behind ws path_line 3 refl stop.1 (path_3 ws last at_2 (path_2 ws name at_1 (path_1 ws first))) in
     subst (λ (n : ℕ). AreBadAt ws n) (sym stop.0) (bad_path ws 3 first s.0 s.1)
+
+-- words of a large case that go on otherwise at some place
+pub big_stops_1 : (ws : List (List ℕ)) (bad : ℕ) → has_word ws 0 (bytes_eq (codes "big")) ≡ true → (bad ≡ 1) × (has_word ws 1 is_steps ≡ false) → AreBadAt ws bad
+big_stops_1 ws bad first stop =
+    let three : length big_line ≡ 3 = refl in
+    let s = stops_before ws big_line 1 is_steps refl (omega arith) stop.1 (big_1 ws first) in
+    subst (λ (n : ℕ). AreBadAt ws n) (sym stop.0) (bad_big ws 1 first s.0 s.1)
+
+pub big_stops_2 : (ws : List (List ℕ)) (steps : List ℕ) (bad : ℕ) → has_word ws 0 (bytes_eq (codes "big")) ≡ true → HasWord ws 1 is_steps steps → (bad ≡ 2) × (has_word ws 2 is_start ≡ false) → AreBadAt ws bad
+big_stops_2 ws steps bad first at_1 stop =
+    let three : length big_line ≡ 3 = refl in
+    let s = stops_before ws big_line 2 is_start refl (omega arith) stop.1 (big_2 ws steps at_1 (big_1 ws first)) in
+    subst (λ (n : ℕ). AreBadAt ws n) (sym stop.0) (bad_big ws 2 first s.0 s.1)
+
+pub big_stops_3 : (ws : List (List ℕ)) (steps start : List ℕ) (bad : ℕ) → has_word ws 0 (bytes_eq (codes "big")) ≡ true → HasWord ws 1 is_steps steps → HasWord ws 2 is_start start → (bad ≡ 3) × (3 < length ws)
+    → AreBadAt ws bad
+big_stops_3 ws steps start bad first at_1 at_2 stop =
+    let s = stops_behind ws big_line 3 refl stop.1 (big_3 ws start at_2 (big_2 ws steps at_1 (big_1 ws first))) in
+    subst (λ (n : ℕ). AreBadAt ws n) (sym stop.0) (bad_big ws 3 first s.0 s.1)
 
 pub whole_help : (ws : List (List ℕ)) → has_word ws 0 (bytes_eq (codes "--help")) ≡ true → length ws ≤ 1 → is_line ws help_line ≡ true
 whole_help ws first short = begun_line ws help_line 1 (help_1 ws first) short refl

@@ -1,5 +1,5 @@
 -- What is said is right.
-use Rattle.std.proofs.Common.{◌≡◌, ℕ, List, Option, Result, Ok, Err, refl, sym, subst, inl, inr}
+use Rattle.std.proofs.Common.{◌≡◌, ℕ, List, [], Option, Result, Ok, Err, refl, sym, ap, subst, ◌∙◌, inl, inr}
 use Rattle.std.specs.Prelude.{IfSome, false}
 use Rattle.run_log.specs.declared.entry.Entry.{Entry}
 use Rattle.run_log.specs.declared.entry.Ending.{Ending}
@@ -8,28 +8,32 @@ use Rattle.project_read.specs.declared.reason.ProjectReason.{ProjectReason}
 use Rattle.project_read.specs.declared.reason.ProjectReason.TheVariants as reasons
 use Rattle.edit_rules.specs.Faults.{is_among}
 use Rattle.project_read.specs.Holds.{Project, Holds}
+use Rattle.project_read.specs.Refuses.{Refuses}
+use Rattle.controller.specs.declared.counting.Counts.{Counts}
+use Rattle.controller.specs.Counts.{counts_of, counts_line}
+use Rattle.controller.specs.Case.{case_project, case_limit}
 use Rattle.controller.specs.declared.answer.Answer.{Answer}
 use Rattle.controller.specs.declared.answer.Answer.TheVariants as answers
 use Rattle.controller.specs.declared.answer.Stop.{Stop}
 use Rattle.controller.specs.declared.answer.Stop.TheVariants as stops
 use Rattle.controller.specs.declared.status.Status.{Status}
 use Rattle.controller.specs.declared.status.Status.TheVariants as statuses
-use Rattle.controller.specs.Words.{IsReplay, IsPath, NamesProject}
+use Rattle.controller.specs.Words.{IsReplay, IsPath, IsBig, NamesProject}
 use Rattle.controller.specs.Outside.{Outside}
-use Rattle.controller.specs.Asked.{IsLog, IsRefused, IsRight}
+use Rattle.controller.specs.Asked.{IsLog, IsRefused, IsRight, replayed}
 use Rattle.controller.specs.Answer.{answer_text, answer_status}
 use Rattle.controller.specs.Answered.{Answered}
-use Rattle.controller.specs.Calls.{IsRefusedFile, Replays, OrReplayStops, Shows, OrStops, IsAnswer, AnswersOrStops, IsPut}
+use Rattle.controller.specs.Calls.{IsRefusedFile, Replays, OrReplayStops, Shows, OrStops, CountsCase, OrNoMemory, IsAnswer, AnswersOrStops, IsPut}
 
 -- what is refused of a named file is refused for the words
 refused : (ws : List (List ℕ)) (holds : List ℕ → Option (List ℕ)) (name : List ℕ) (reason : ProjectReason) → NamesProject ws name → IsRefusedFile (holds name) reason → IsRefused ws holds reason
 refused ws holds name (reasons.NoStep n) named is = absurd is.1
-refused ws holds name reasons.TooLong named is = record { name = name; named = named; refused = is.0 }
-refused ws holds name (reasons.Read fault) named is = record { name = name; named = named; refused = is.0 }
-refused ws holds name (reasons.Attribute fault) named is = record { name = name; named = named; refused = is.0 }
-refused ws holds name (reasons.Store fault) named is = record { name = name; named = named; refused = is.0 }
-refused ws holds name (reasons.Tree fault) named is = record { name = name; named = named; refused = is.0 }
-refused ws holds name (reasons.Definition n fault) named is = record { name = name; named = named; refused = is.0 }
+refused ws holds name reasons.TooLong named is = inl (record { name = name; named = named; refused = is.0 })
+refused ws holds name (reasons.Read fault) named is = inl (record { name = name; named = named; refused = is.0 })
+refused ws holds name (reasons.Attribute fault) named is = inl (record { name = name; named = named; refused = is.0 })
+refused ws holds name (reasons.Store fault) named is = inl (record { name = name; named = named; refused = is.0 })
+refused ws holds name (reasons.Tree fault) named is = inl (record { name = name; named = named; refused = is.0 })
+refused ws holds name (reasons.Definition n fault) named is = inl (record { name = name; named = named; refused = is.0 })
 
 is_log : (ws : List (List ℕ)) (holds : List ℕ → Option (List ℕ)) (name script schedule : List ℕ) (limit : ℕ) (t : List Entry) (ending : Ending) → IsReplay ws name script schedule limit
     → Replays holds name script schedule limit (answers.Ran t ending) → IsLog ws holds t ending
@@ -59,7 +63,7 @@ replay_right ws holds name script schedule limit (answers.Refused reason) asked 
 replay_right ws holds name script schedule limit (answers.ScriptRefused reason) asked (p, held, inl is) =
     (inl (record { name = name; script = script; schedule = schedule; limit = limit; asked = asked; project = p; held = held; unscripted = is }), refl)
 replay_right ws holds name script schedule limit (answers.ScriptRefused reason) asked (p, held, inr is) = (
-  inr (record {
+  inr (inl (record {
     name = name;
     script = script;
     schedule = schedule;
@@ -70,13 +74,14 @@ replay_right ws holds name script schedule limit (answers.ScriptRefused reason) 
     edits = is.0;
     scripted = is.1;
     unscheduled = is.2;
-  }),
+  })),
   refl,
 )
 replay_right ws holds name script schedule limit (answers.Ran t endings.Done) asked is = (t, is_log ws holds name script schedule limit t endings.Done asked is, refl)
 replay_right ws holds name script schedule limit (answers.Ran t endings.Blocked) asked is = (t, is_log ws holds name script schedule limit t endings.Blocked asked is, refl)
 replay_right ws holds name script schedule limit (answers.Ran t endings.Limit) asked is = (t, is_log ws holds name script schedule limit t endings.Limit asked is, refl)
 replay_right ws holds name script schedule limit (answers.Shown d) asked is = absurd is
+replay_right ws holds name script schedule limit (answers.Counted n from ending counts) asked is = absurd is
 
 not_shown : (ws : List (List ℕ)) (holds : List ℕ → Option (List ℕ)) (name : List ℕ) (n : ℕ) (reason : ProjectReason) → IsPath ws name n → Shows (holds name) n (answers.Refused reason) → IsRefused ws holds reason
 not_shown ws holds name n (reasons.NoStep m) asked is = record {
@@ -100,6 +105,52 @@ shown ws holds name n (answers.ScriptRefused reason) asked is = absurd is
 shown ws holds name n (answers.Refused reason) asked is = (not_shown ws holds name n reason asked is, refl)
 shown ws holds name n (answers.Ran t ending) asked is = absurd is
 shown ws holds name n (answers.Shown d) asked is = inl (d, record { name = name; number = n; asked = asked; project = is.0; held = is.1; step = is.2 }, refl)
+shown ws holds name n (answers.Counted m from ending counts) asked is = absurd is
+
+-- what is refused of the project of a large case is refused for the words that ask for it
+no_case : (ws : List (List ℕ)) (holds : List ℕ → Option (List ℕ)) (steps start : ℕ) (reason : ProjectReason) → IsBig ws steps start → Refuses (case_project steps start) reason → IsRefused ws holds reason
+no_case ws holds steps start (reasons.NoStep n) asked is = absurd is
+no_case ws holds steps start reasons.TooLong asked is = inr (record { steps = steps; start = start; asked = asked; refused = is })
+no_case ws holds steps start (reasons.Read fault) asked is = inr (record { steps = steps; start = start; asked = asked; refused = is })
+no_case ws holds steps start (reasons.Attribute fault) asked is = inr (record { steps = steps; start = start; asked = asked; refused = is })
+no_case ws holds steps start (reasons.Store fault) asked is = inr (record { steps = steps; start = start; asked = asked; refused = is })
+no_case ws holds steps start (reasons.Tree fault) asked is = inr (record { steps = steps; start = start; asked = asked; refused = is })
+no_case ws holds steps start (reasons.Definition n fault) asked is = inr (record { steps = steps; start = start; asked = asked; refused = is })
+
+-- what comes of a large case is right for the words that ask for it
+counted : (ws : List (List ℕ)) (holds : List ℕ → Option (List ℕ)) (steps start : ℕ) (a : Answer) → IsBig ws steps start → CountsCase steps start a → IsAnswer ws holds a
+counted ws holds steps start (answers.BadWords place) asked is = absurd is
+counted ws holds steps start answers.Help asked is = absurd is
+counted ws holds steps start answers.Version asked is = absurd is
+counted ws holds steps start (answers.Refused reason) asked is = (no_case ws holds steps start reason asked is, refl)
+counted ws holds steps start (answers.ScriptRefused reason) asked is = (inr (inr (record { steps = steps; start = start; asked = asked; project = is.0; held = is.1; refused = is.2 })), refl)
+counted ws holds steps start (answers.Ran t ending) asked is = absurd is
+counted ws holds steps start (answers.Shown d) asked is = absurd is
+counted ws holds steps start (answers.Counted n from ending counts) asked (p, held, edits, scripted, same, since, run, sums) =
+    inr (inl (record {
+      steps = steps;
+      start = start;
+      asked = asked;
+      project = p;
+      held = held;
+      edits = edits;
+      scripted = scripted;
+      t = replayed p edits [] case_limit;
+      ending = ending;
+      run = run;
+      replayed_so = refl;
+      says = said n from counts same since sums;
+    }))
+  where
+    said : (m o : ℕ) (c : Counts) → m ≡ steps → o ≡ start → c ≡ counts_of (replayed p edits [] case_limit) → counts_line m o ending c ≡ counts_line steps start ending (counts_of (replayed p edits [] case_limit))
+    said m o c e f g = ap (λ (k : ℕ). counts_line k o ending c) e ∙ ap (λ (k : ℕ). counts_line steps k ending c) f ∙ ap (counts_line steps start ending) g
+
+-- what comes of a large case, or why nothing does, answers the words that ask for it
+pub case_answers : (ws : List (List ℕ)) (holds : List ℕ → Option (List ℕ)) (before now : List ℕ → ℕ) (steps start : ℕ) (r : Result Answer Stop) → IsBig ws steps start → OrNoMemory (CountsCase steps start) r
+    → AnswersOrStops ws holds before now r
+case_answers ws holds before now steps start (Ok a) asked is = counted ws holds steps start a asked is
+case_answers ws holds before now steps start (Err stops.ReadFault) asked is = absurd is
+case_answers ws holds before now steps start (Err stops.NoMemory) asked is = tt
 
 -- a status and a text that are right for the words, with what was put, are an answer to the words
 pub answered : {F : Type 0} (ws : List (List ℕ)) (before after : Outside F) (a : Answer) (s : Status) → IsAnswer ws before.holds a → IsPut before.taken after.taken before.put_faults after.put_faults a s

@@ -6,11 +6,12 @@ use Rattle.run_log.specs.declared.entry.Ending.TheVariants as endings
 use Rattle.run_log.specs.LogText.{text_of}
 use Rattle.run_log.specs.BlocksText.{blocks_text}
 use Rattle.controller.specs.declared.answer.Answer.{Answer}
-use Rattle.controller.specs.declared.answer.Answer.TheVariants.{BadWords, Help, Version, Refused, ScriptRefused, Ran, Shown}
+use Rattle.controller.specs.declared.answer.Answer.TheVariants.{BadWords, Help, Version, Refused, ScriptRefused, Ran, Shown, Counted}
 use Rattle.controller.specs.declared.status.Status.{Status}
 use Rattle.controller.specs.declared.status.Status.TheVariants as statuses
 use Rattle.controller.specs.Texts.{bad_words_line, help_text, version_text}
 use Rattle.controller.specs.Refusal.{refusal_line, script_line}
+use Rattle.controller.specs.Counts.{counts_line}
 
 -- the bytes that say an answer
 abbrev pub answer_text : Answer → List ℕ
@@ -21,6 +22,7 @@ answer_text (Refused reason) = refusal_line reason
 answer_text (ScriptRefused reason) = script_line reason
 answer_text (Ran t ending) = text_of t ending
 answer_text (Shown d) = blocks_text (path_of d)
+answer_text (Counted steps start ending counts) = counts_line steps start ending counts
 
 abbrev pub ending_status : Ending → Status
 ending_status endings.Done = statuses.Done
@@ -36,3 +38,4 @@ answer_status (Refused reason) = statuses.ProjectRefused reason
 answer_status (ScriptRefused reason) = statuses.ScriptRefused reason
 answer_status (Ran t ending) = ending_status ending
 answer_status (Shown d) = statuses.Written
+answer_status (Counted steps start ending counts) = statuses.Written

@@ -1,5 +1,5 @@
 -- What the words ask for, and the status and the text that are right for it.
-use Rattle.std.specs.Prelude.{◌≡◌, ◌⊎◌, ℕ, true, false, List, Option, Ok, IfSome}
+use Rattle.std.specs.Prelude.{◌≡◌, ◌⊎◌, ℕ, true, false, List, [], Option, Ok, IfSome}
 use Rattle.path_blocks.specs.declared.def.Def.{Def}
 use Rattle.path_blocks.specs.Path.{path_of}
 use Rattle.project_store.specs.Entities.{entity_at}
@@ -19,13 +19,15 @@ use Rattle.run_log.specs.LogText.{text_of}
 use Rattle.run_log.specs.BlocksText.{blocks_text}
 use Rattle.controller.specs.declared.status.Status.{Status}
 use Rattle.controller.specs.declared.status.Status.TheVariants.{Done, Blocked, RunLimit, Written, BadWords, ProjectRefused, ScriptRefused, ReadFault, WriteFault, NoMemory}
-use Rattle.controller.specs.Words.{help_line, version_line, is_line, IsReplay, IsPath, NamesProject, AreBadAt}
+use Rattle.controller.specs.Words.{help_line, version_line, is_line, IsReplay, IsPath, IsBig, NamesProject, AreBadAt}
 use Rattle.controller.specs.Texts.{bad_words_line, help_text, version_text}
 use Rattle.controller.specs.Refusal.{refusal_line, script_line}
 use Rattle.controller.specs.declared.status.ScriptReason.{ScriptReason}
 use Rattle.entity_types.specs.declared.edit.Edit.{Edit}
-use Rattle.controller.specs.ScriptText.{IsScripted, IsUnscripted}
+use Rattle.controller.specs.ScriptText.{IsScript, RefusesScript, IsScripted, IsUnscripted}
 use Rattle.controller.specs.ScheduleText.{IsScheduled, IsUnscheduled}
+use Rattle.controller.specs.Counts.{counts_of, counts_line}
+use Rattle.controller.specs.Case.{case_project, case_script, case_limit}
 
 -- the file of this name holds the project, where it is told what it holds
 abbrev pub HoldsProject : (List ℕ → Option (List ℕ)) → List ℕ → Project → Type 0
@@ -102,16 +104,52 @@ pub record HasNoSchedule (words : List (List ℕ)) (holds : List ℕ → Option 
   pub scripted : IsScripted holds script edits
   pub unscheduled : IsUnscheduled holds schedule reason
 
--- why the project that the words name is refused
+-- The words ask for a large case, and t is the log of the run of its project and its script, which are both accepted, under the empty schedule and up
+-- to as many entries as a log may have. It is a legal run of the two, it has this ending, and the text is the line of its counts.
+pub record IsCounted (words : List (List ℕ)) (text : List ℕ) : Type 0 where
+  pub steps : ℕ
+  pub start : ℕ
+  pub asked : IsBig words steps start
+  pub project : Project
+  pub held : Holds (case_project steps start) project
+  pub edits : List Edit
+  pub scripted : IsScript (case_script steps start) edits
+  pub t : List Entry
+  pub ending : Ending
+  pub run : IsRun project.entities edits case_limit t ending
+  pub replayed_so : t ≡ replayed project edits [] case_limit
+  pub says : text ≡ counts_line steps start ending (counts_of t)
+
+-- the words ask for a large case, and the text of its project holds none, for this reason
+pub record HasNoCase (words : List (List ℕ)) (reason : ProjectReason) : Type 0 where
+  pub steps : ℕ
+  pub start : ℕ
+  pub asked : IsBig words steps start
+  pub refused : Refuses (case_project steps start) reason
+
+-- the words ask for a large case, the text of its project holds one, and the text of its script is none, for this reason
+pub record HasNoCaseScript (words : List (List ℕ)) (reason : ScriptReason) : Type 0 where
+  pub steps : ℕ
+  pub start : ℕ
+  pub asked : IsBig words steps start
+  pub project : Project
+  pub held : Holds (case_project steps start) project
+  pub refused : RefusesScript (case_script steps start) reason
+
+-- why the project that the words name or ask for is refused
 abbrev pub IsRefused : List (List ℕ) → (List ℕ → Option (List ℕ)) → ProjectReason → Type 0
 IsRefused words holds (NoStep n) = HasNoStep words holds n
-IsRefused words holds reason = HasNoProject words holds reason
+IsRefused words holds reason = HasNoProject words holds reason ⊎ HasNoCase words reason
 
--- what is written for the words: the path of a workingstep block by block, the commands, or the version
+-- why the script or the schedule that the words name or ask for is refused
+abbrev pub IsRefusedScript : List (List ℕ) → (List ℕ → Option (List ℕ)) → ScriptReason → Type 0
+IsRefusedScript words holds reason = HasNoScript words holds reason ⊎ (HasNoSchedule words holds reason ⊎ HasNoCaseScript words reason)
+
+-- what is written for the words: the path of a workingstep block by block, the counts of a large case, the commands, or the version
 abbrev pub IsWritten : List (List ℕ) → (List ℕ → Option (List ℕ)) → List ℕ → Type 0
 IsWritten words holds text =
     ((d : Def) × IsDefinition words holds d × (text ≡ blocks_text (path_of d)))
-    ⊎ (((is_line words help_line ≡ true) × (text ≡ help_text)) ⊎ ((is_line words version_line ≡ true) × (text ≡ version_text)))
+    ⊎ (IsCounted words text ⊎ (((is_line words help_line ≡ true) × (text ≡ help_text)) ⊎ ((is_line words version_line ≡ true) × (text ≡ version_text))))
 
 -- The words, with what the files hold, have this status and this text. That a file or the sink fails, and that memory runs out, lies in neither.
 abbrev pub IsRight : List (List ℕ) → (List ℕ → Option (List ℕ)) → Status → List ℕ → Type 0
@@ -121,7 +159,7 @@ IsRight words holds RunLimit text = (t : List Entry) × IsLog words holds t endi
 IsRight words holds Written text = IsWritten words holds text
 IsRight words holds (BadWords place) text = AreBadAt words place × (text ≡ bad_words_line place)
 IsRight words holds (ProjectRefused reason) text = IsRefused words holds reason × (text ≡ refusal_line reason)
-IsRight words holds (ScriptRefused reason) text = (HasNoScript words holds reason ⊎ HasNoSchedule words holds reason) × (text ≡ script_line reason)
+IsRight words holds (ScriptRefused reason) text = IsRefusedScript words holds reason × (text ≡ script_line reason)
 IsRight words holds ReadFault text = ⊥
 IsRight words holds WriteFault text = ⊥
 IsRight words holds NoMemory text = ⊥

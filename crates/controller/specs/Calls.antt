@@ -1,5 +1,5 @@
 -- What the calls beneath the top calls answer.
-use Rattle.std.specs.Prelude.{◌≡◌, ◌⊎◌, ℕ, false, List, Option, Result, Ok, Err, IfSome}
+use Rattle.std.specs.Prelude.{◌≡◌, ◌⊎◌, ℕ, false, List, [], Option, Result, Ok, Err, IfSome}
 use Rattle.std.specs.Global.{Vec}
 use Rattle.nc_outside.specs.Outside.{Rose, Appends, AppendsFront}
 use Rattle.entity_types.specs.declared.entity.Entity.{Entity}
@@ -11,7 +11,7 @@ use Rattle.project_read.specs.Refuses.{Refuses}
 use Rattle.project_read.specs.Reads.{Reads}
 use Rattle.project_law.specs.Run.{IsRun}
 use Rattle.controller.specs.declared.answer.Answer.{Answer}
-use Rattle.controller.specs.declared.answer.Answer.TheVariants.{Refused, ScriptRefused, Ran, Shown}
+use Rattle.controller.specs.declared.answer.Answer.TheVariants.{Refused, ScriptRefused, Ran, Shown, Counted}
 use Rattle.controller.specs.declared.answer.Stop.{Stop}
 use Rattle.controller.specs.declared.answer.Stop.TheVariants as stops
 use Rattle.controller.specs.declared.unheld.Unheld.{Unheld}
@@ -20,8 +20,10 @@ use Rattle.controller.specs.declared.status.Status.{Status}
 use Rattle.controller.specs.declared.status.Status.TheVariants.{WriteFault}
 use Rattle.controller.specs.Words.{Names, is_hyphen}
 use Rattle.entity_types.specs.declared.edit.Edit.{Edit}
-use Rattle.controller.specs.ScriptText.{IsScripted, IsUnscripted}
+use Rattle.controller.specs.ScriptText.{IsScript, RefusesScript, IsScripted, IsUnscripted}
 use Rattle.controller.specs.ScheduleText.{IsScheduled, IsUnscheduled}
+use Rattle.controller.specs.Counts.{counts_of}
+use Rattle.controller.specs.Case.{case_project, case_script, case_limit}
 use Rattle.controller.specs.Asked.{HoldsProject, IsStep, IsRight, replayed}
 use Rattle.controller.specs.Answer.{answer_status, answer_text}
 
@@ -42,6 +44,22 @@ IsRefusedFile held reason = IfSome held (λ bytes. Refuses bytes reason) × IsOf
 abbrev pub IsStopOf : ℕ → ℕ → Stop → Type 0
 IsStopOf before now stops.ReadFault = Rose before now
 IsStopOf before now stops.NoMemory = Unit {0}
+
+-- the project that bytes hold, or why they hold none, unless memory ran out
+abbrev pub ReadsProject : List ℕ → Result (List Entity) Unheld → Type 0
+ReadsProject bytes (Ok p) = Reads bytes (Ok p)
+ReadsProject bytes (Err (unheld.Refused reason)) = Refuses bytes reason
+ReadsProject bytes (Err (unheld.ScriptRefused reason)) = ⊥
+ReadsProject bytes (Err (unheld.Stopped stops.ReadFault)) = ⊥
+ReadsProject bytes (Err (unheld.Stopped stops.NoMemory)) = Unit {0}
+
+-- the edits of the script that bytes are, or why they are none, unless memory ran out
+abbrev pub ReadsEdits : List ℕ → Result (List Edit) Unheld → Type 0
+ReadsEdits bytes (Ok edits) = IsScript bytes edits
+ReadsEdits bytes (Err (unheld.Refused reason)) = ⊥
+ReadsEdits bytes (Err (unheld.ScriptRefused reason)) = RefusesScript bytes reason
+ReadsEdits bytes (Err (unheld.Stopped stops.ReadFault)) = ⊥
+ReadsEdits bytes (Err (unheld.Stopped stops.NoMemory)) = Unit {0}
 
 -- the project that a file holds, or why it gave none
 abbrev pub ReadsFile : Option (List ℕ) → ℕ → ℕ → Result (List Entity) Unheld → Type 0
@@ -119,6 +137,26 @@ Shows held n _ = ⊥
 abbrev pub OrStops : ℕ → ℕ → (Answer → Type 0) → Result Answer Stop → Type 0
 OrStops before now Is (Ok a) = Is a
 OrStops before now Is (Err stop) = IsStopOf before now stop
+
+-- what comes of the run of the project and these edits of a large case of these two numbers, under the empty schedule
+abbrev pub CountsRun : Project → List Edit → ℕ → ℕ → Answer → Type 0
+CountsRun p edits steps start (Counted n from ending counts) =
+    (n ≡ steps) × (from ≡ start) × IsRun p.entities edits case_limit (replayed p edits [] case_limit) ending × (counts ≡ counts_of (replayed p edits [] case_limit))
+CountsRun p edits steps start _ = ⊥
+
+-- what comes of the large case of these two numbers
+abbrev pub CountsCase : ℕ → ℕ → Answer → Type 0
+CountsCase steps start (Refused reason) = Refuses (case_project steps start) reason
+CountsCase steps start (ScriptRefused reason) = (p : Project) × Holds (case_project steps start) p × RefusesScript (case_script steps start) reason
+CountsCase steps start (Counted n from ending counts) =
+    (p : Project) × Holds (case_project steps start) p × (edits : List Edit) × IsScript (case_script steps start) edits × CountsRun p edits steps start (Counted n from ending counts)
+CountsCase steps start _ = ⊥
+
+-- or nothing does, since memory ran out
+abbrev pub OrNoMemory : (Answer → Type 0) → Result Answer Stop → Type 0
+OrNoMemory Is (Ok a) = Is a
+OrNoMemory Is (Err stops.ReadFault) = ⊥
+OrNoMemory Is (Err stops.NoMemory) = Unit {0}
 
 -- the answer is right for the words
 abbrev pub IsAnswer : List (List ℕ) → (List ℕ → Option (List ℕ)) → Answer → Type 0

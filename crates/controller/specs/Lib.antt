@@ -8,6 +8,8 @@ pub mod Codes
 pub mod Outside
 pub mod ScriptText
 pub mod ScheduleText
+pub mod Counts
+pub mod Case
 pub mod Asked
 pub mod Told
 pub mod Answered

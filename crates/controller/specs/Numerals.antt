@@ -20,6 +20,10 @@ has_leading_zero (b ∷ c ∷ bs) = b == FIRST_DIGIT
 abbrev pub is_number : ℕ → List ℕ → Bool
 is_number most w = nat_lt 0 (length w) && nat_le (length w) most && list_all is_digit w && not (has_leading_zero w)
 
+-- a number up to `most`, in at most so many digits
+abbrev pub is_upto : ℕ → ℕ → List ℕ → Bool
+is_upto digits most w = is_number digits w && nat_le (value_of w) most
+
 -- a number from 1 to `most`, in at most so many digits
 abbrev pub is_count : ℕ → ℕ → List ℕ → Bool
 is_count digits most w = is_number digits w && nat_le 1 (value_of w) && nat_le (value_of w) most

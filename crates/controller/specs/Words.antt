@@ -3,9 +3,10 @@ use Rattle.std.specs.Prelude.{◌≡◌, ◌⊎◌, ℕ, ◌+◌, ◌<◌, ◌�
 use Rattle.std.specs.List.{list_any}
 use Rattle.std.specs.Str.{bytes_eq}
 use Rattle.nc_base.specs.declared.numbers.TheConstants.{MAX_NUMBER}
-use Rattle.controller.specs.declared.command.TheConstants.{LIMIT_DIGITS, NUMBER_DIGITS}
+use Rattle.big_case.specs.declared.workplans.TheConstants.{MAX_STEPS}
+use Rattle.controller.specs.declared.command.TheConstants.{LIMIT_DIGITS, NUMBER_DIGITS, CASE_DIGITS, MAX_START}
 use Rattle.run_log.specs.declared.entry.TheConstants.{MAX_ENTRIES}
-use Rattle.controller.specs.Numerals.{value_of, is_count}
+use Rattle.controller.specs.Numerals.{value_of, is_count, is_upto}
 
 -- what a word of a command may be
 abbrev pub Form : Type 0
@@ -18,6 +19,14 @@ is_limit w = is_count LIMIT_DIGITS MAX_ENTRIES w
 -- the number of an instance
 abbrev pub is_step : Form
 is_step w = is_count NUMBER_DIGITS MAX_NUMBER w
+
+-- how many workingsteps a large case has
+abbrev pub is_steps : Form
+is_steps w = is_count CASE_DIGITS MAX_STEPS w
+
+-- the number from which on a large case is drawn
+abbrev pub is_start : Form
+is_start w = is_upto CASE_DIGITS MAX_START w
 
 -- a file name: at least one byte
 abbrev pub is_name : Form
@@ -34,6 +43,9 @@ replay_line = bytes_eq (codes "replay") ∷ is_name ∷ is_name ∷ is_name ∷ 
 abbrev pub path_line : List Form
 path_line = bytes_eq (codes "path") ∷ is_name ∷ is_step ∷ []
 
+abbrev pub big_line : List Form
+big_line = bytes_eq (codes "big") ∷ is_steps ∷ is_start ∷ []
+
 abbrev pub help_line : List Form
 help_line = bytes_eq (codes "--help") ∷ []
 
@@ -41,7 +53,7 @@ abbrev pub version_line : List Form
 version_line = bytes_eq (codes "--version") ∷ []
 
 abbrev pub table : List (List Form)
-table = replay_line ∷ path_line ∷ help_line ∷ version_line ∷ []
+table = replay_line ∷ path_line ∷ big_line ∷ help_line ∷ version_line ∷ []
 
 -- the words begin the line
 abbrev pub begins : List (List ℕ) → List Form → Bool
@@ -78,6 +90,11 @@ IsReplay _ name script schedule limit = ⊥
 abbrev pub IsPath : List (List ℕ) → List ℕ → ℕ → Type 0
 IsPath (w0 ∷ project ∷ w2 ∷ []) name n = (is_line (w0 ∷ project ∷ w2 ∷ []) path_line ≡ true) × (project ≡ name) × (value_of w2 ≡ n)
 IsPath _ name n = ⊥
+
+-- the words are those of the large case of so many workingsteps, drawn from this start on
+abbrev pub IsBig : List (List ℕ) → ℕ → ℕ → Type 0
+IsBig (w0 ∷ w1 ∷ w2 ∷ []) steps start = (is_line (w0 ∷ w1 ∷ w2 ∷ []) big_line ≡ true) × (value_of w1 ≡ steps) × (value_of w2 ≡ start)
+IsBig _ steps start = ⊥
 
 -- the words name this project file to read
 abbrev pub NamesProject : List (List ℕ) → List ℕ → Type 0

@@ -9,6 +9,7 @@ ghost use Rattle.run_log.specs.LogText.{text_of};
 ghost use Rattle.controller.specs.Texts.{bad_words_line, help_text, version_text};
 ghost use Rattle.controller.specs.Answer.{answer_text, answer_status};
 
+use crate::counting::{Counts, counts_line};
 use crate::refusal::{refusal_line, script_line};
 use crate::status::{ScriptReason, Status};
 use nc_base::{Line, put, put_number};
@@ -34,6 +35,13 @@ pub enum Answer {
     Ran(Log, Ending),
     /// The workingstep has this path.
     Shown(Plan),
+    /// The large case of so many workingsteps, drawn from this start on, ran so.
+    Counted {
+        steps: u32,
+        start: u32,
+        ending: Ending,
+        counts: Counts,
+    },
 }
 
 /// Why there is no answer.
@@ -54,6 +62,9 @@ const HELP: &[u8] = b"stepnc runs a STEP-NC project and writes its run log.\n\
     SCHEDULE is a file that says which channel has the next turn, or -\n  \
     stepnc path PROJECT STEP\n      \
     writes the path of workingstep STEP, one block a line\n  \
+    stepnc big STEPS START\n      \
+    makes a project of STEPS workingsteps (1 to 1000) and a script of edits, drawn\n      \
+    from START (0 to 9999999) on, runs them, and writes what their log counts\n  \
     stepnc --help\n      \
     writes this text\n  \
     stepnc --version\n      \
@@ -106,7 +117,7 @@ impl Answer {
     {
         match self {
             Answer::BadWords(place) => Status::BadWords(*place),
-            Answer::Help | Answer::Version | Answer::Shown(_) => Status::Written,
+            Answer::Help | Answer::Version | Answer::Shown(_) | Answer::Counted { .. } => Status::Written,
             Answer::Refused(reason) => Status::ProjectRefused(*reason),
             Answer::ScriptRefused(reason) => Status::ScriptRefused(*reason),
             Answer::Ran(_, Ending::Done) => Status::Done,
@@ -130,6 +141,12 @@ impl Answer {
             Answer::ScriptRefused(reason) => put_all(sink, script_line(*reason).as_slice()),
             Answer::Ran(log, ending) => put_log(log, *ending, sink),
             Answer::Shown(plan) => put_path(plan, sink),
+            Answer::Counted {
+                steps,
+                start,
+                ending,
+                counts,
+            } => put_all(sink, counts_line(*steps, *start, *ending, *counts).as_slice()),
         }
     }
 }

@@ -3,10 +3,11 @@
 ghost use Rattle.std.specs.Prelude.{◌≡◌, ◌<◌, ◌≤◌, ℕ, List, length, slice_get, true, false, codes, MatchOption, MatchResult, option_map, Ok};
 ghost use Rattle.std.specs.Str.{bytes_eq};
 ghost use Rattle.controller.specs.Numerals.{value_of};
-ghost use Rattle.controller.specs.Words.{is_limit, is_step, is_name};
+ghost use Rattle.controller.specs.Words.{is_limit, is_step, is_steps, is_start, is_name};
 ghost use Rattle.controller.specs.Commands.{HasWord, has_word, Ask};
 
-use crate::numerals::count_of;
+use crate::numerals::{count_of, number_of};
+use big_case::MAX_STEPS;
 use nc_base::{MAX_NUMBER, NcText, Number};
 use run_log::MAX_ENTRIES;
 
@@ -15,6 +16,12 @@ pub const LIMIT_DIGITS: usize = 7;
 
 /// How many digits the number of an instance has at most.
 pub const NUMBER_DIGITS: usize = 10;
+
+/// How many digits each of the two numbers of a large case has at most.
+pub const CASE_DIGITS: usize = 7;
+
+/// The largest number from which on a large case is drawn (this profile).
+pub const MAX_START: u32 = 9_999_999;
 
 /// What the words of a command ask for.
 #[derive(Clone, Copy)]
@@ -30,6 +37,11 @@ pub enum Command<'a> {
     Path {
         project: &'a NcText,
         step: Number,
+    },
+    /// To run the large case of so many workingsteps, drawn from this start on, and count its log.
+    Big {
+        steps: u32,
+        start: u32,
     },
     /// To say which commands there are.
     Help,
@@ -98,6 +110,32 @@ fn step_at(words: &[NcText], place: u32) -> Result<Number, u32>
     }
 }
 
+/// How many workingsteps a large case has, at a place: 1 to `MAX_STEPS`.
+///
+/// # Errors
+/// The place, where no such number stands there.
+fn steps_at(words: &[NcText], place: u32) -> Result<u32, u32>
+    ensures { MatchResult result (λ steps. (w : List ℕ) × HasWord words.now place is_steps w × (steps ≡ value_of w)) (λ bad. (bad ≡ place) × (has_word words.now place is_steps ≡ false)) }
+{
+    match word_at(words, place) {
+        Some(word) => count_of(word.bytes(), CASE_DIGITS, MAX_STEPS).ok_or(place),
+        None => Err(place),
+    }
+}
+
+/// The number from which on a large case is drawn, at a place: 0 to `MAX_START`.
+///
+/// # Errors
+/// The place, where no such number stands there.
+fn start_at(words: &[NcText], place: u32) -> Result<u32, u32>
+    ensures { MatchResult result (λ start. (w : List ℕ) × HasWord words.now place is_start w × (start ≡ value_of w)) (λ bad. (bad ≡ place) × (has_word words.now place is_start ≡ false)) }
+{
+    match word_at(words, place) {
+        Some(word) => number_of(word.bytes(), CASE_DIGITS, MAX_START).ok_or(place),
+        None => Err(place),
+    }
+}
+
 /// Sees that the words end before a place.
 ///
 /// # Errors
@@ -141,6 +179,17 @@ fn path_of(words: &[NcText]) -> Result<Command<'_>, u32>
     Ok(Command::Path { project, step })
 }
 
+/// What words ask for whose first is `big`.
+fn big_of(words: &[NcText]) -> Result<Command<'_>, u32>
+    requires { has_word words.now 0 (bytes_eq (codes "big")) ≡ true }
+    ensures { Ask words.now result }
+{
+    let steps = steps_at(words, 1)?;
+    let start = start_at(words, 2)?;
+    end_at(words, 3)?;
+    Ok(Command::Big { steps, start })
+}
+
 /// What words ask for whose first is `--help`.
 fn help_of(words: &[NcText]) -> Result<Command<'_>, u32>
     requires { has_word words.now 0 (bytes_eq (codes "--help")) ≡ true }
@@ -171,6 +220,8 @@ pub fn command_of(words: &[NcText]) -> Result<Command<'_>, u32>
         replay_of(words)
     } else if is_at(words, 0, b"path") {
         path_of(words)
+    } else if is_at(words, 0, b"big") {
+        big_of(words)
     } else if is_at(words, 0, b"--help") {
         help_of(words)
     } else if is_at(words, 0, b"--version") {

@@ -9,6 +9,7 @@
 //! | laws | words mean one command or are bad at one place, and have one answer | `word_laws`, `answer_laws` |
 //! | project_file, script_file, schedule_file, unheld | the project that a file holds, the script and the schedule that words name, or why there is none | |
 //! | replaying, showing | what the commands do with a project | |
+//! | large_case, counting | the run of a large case, and the counts of a log | |
 //! | answer, refusal | an answer before it is written, and its text | |
 //!
 //! Its tests stand in the crate controller_tests.
@@ -16,6 +17,8 @@
 
 mod answer;
 mod command;
+mod counting;
+mod large_case;
 mod laws;
 mod numerals;
 mod project_file;

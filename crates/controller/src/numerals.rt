@@ -2,7 +2,7 @@
 
 ghost use Rattle.std.specs.Prelude.{◌≡◌, ◌≤◌, length, true, false, MatchOption};
 ghost use Rattle.std.specs.List.{list_all};
-ghost use Rattle.controller.specs.Numerals.{is_digit, is_number, is_count, has_leading_zero, value_of};
+ghost use Rattle.controller.specs.Numerals.{is_digit, is_number, is_upto, is_count, has_leading_zero, value_of};
 
 /// The first of the ten digits.
 pub const FIRST_DIGIT: u8 = b'0';
@@ -52,6 +52,22 @@ fn is_number(word: &[u8], most: usize) -> bool
     ensures { result ≡ is_number most word.now }
 {
     0 < word.len() && word.len() <= most && are_digits(word) && !has_leading_zero(word)
+}
+
+/// The number up to `most` that a word is, in at most so many digits.
+pub fn number_of(word: &[u8], digits: usize, most: u32) -> Option<u32>
+    requires { digits ≤ 10 }
+    ensures { MatchOption result (is_upto digits most word.now ≡ false) (λ n. (is_upto digits most word.now ≡ true) × (n ≡ value_of word.now)) }
+{
+    if !is_number(word, digits) {
+        return None;
+    }
+    let value = value_of(word);
+    if value <= u64::from(most) {
+        Some(value as u32)
+    } else {
+        None
+    }
 }
 
 /// The number from 1 to `most` that a word is, in at most so many digits.

@@ -1,7 +1,8 @@
 //! The project that a file holds.
 
-ghost use Rattle.std.specs.Prelude.{◌≡◌, ℕ, ◌≤◌, List};
-ghost use Rattle.controller.specs.Calls.{ReadsFile};
+ghost use Rattle.std.specs.Prelude.{◌≡◌, ℕ, ◌≤◌, List, length};
+ghost use Rattle.project_read.specs.declared.limits.TheConstants.{MAX_PROJECT_BYTES};
+ghost use Rattle.controller.specs.Calls.{ReadsFile, ReadsProject};
 
 use crate::answer::Stop;
 use crate::unheld::Unheld;
@@ -10,6 +11,35 @@ use nc_base::NcText;
 use nc_outside::{FileErr, Files};
 use project_read::{MAX_PROJECT_BYTES, ProjectErr, ProjectReason, project_in};
 use std::alloc::Global;
+
+/// The project of bytes, of which there are no more than a file may have.
+///
+/// # Errors
+/// Why they hold none.
+fn project_within(alloc: Global, bytes: &[u8]) -> Result<Project, Unheld>
+    requires { length bytes.now ≤ MAX_PROJECT_BYTES }
+    ensures { ReadsProject bytes.now result }
+{
+    match project_in(alloc, bytes) {
+        Ok(project) => Ok(project),
+        Err(ProjectErr::Refused(reason)) => Err(Unheld::Refused(reason)),
+        Err(ProjectErr::NoMemory) => Err(Unheld::Stopped(Stop::NoMemory)),
+    }
+}
+
+/// The project of bytes, read as those of a file are.
+///
+/// # Errors
+/// Why they hold none.
+pub fn project_of(alloc: Global, bytes: &[u8]) -> Result<Project, Unheld>
+    ensures { ReadsProject bytes.now result }
+{
+    if bytes.len() <= MAX_PROJECT_BYTES {
+        project_within(alloc, bytes)
+    } else {
+        Err(Unheld::Refused(ProjectReason::TooLong))
+    }
+}
 
 /// The project that a file holds.
 ///
@@ -22,11 +52,7 @@ pub fn project_at<F: Files>(alloc: Global, name: &NcText, files: &mut F) -> Resu
 {
     let mut room = Vec::new(alloc);
     match files.read(name, &mut room, MAX_PROJECT_BYTES as u32) {
-        Ok(()) => match project_in(alloc, room.as_slice()) {
-            Ok(project) => Ok(project),
-            Err(ProjectErr::Refused(reason)) => Err(Unheld::Refused(reason)),
-            Err(ProjectErr::NoMemory) => Err(Unheld::Stopped(Stop::NoMemory)),
-        },
+        Ok(()) => project_within(alloc, room.as_slice()),
         Err(FileErr::TooLong) => Err(Unheld::Refused(ProjectReason::TooLong)),
         Err(FileErr::Failed) => Err(Unheld::Stopped(Stop::ReadFault)),
         Err(FileErr::NoMemory) => Err(Unheld::Stopped(Stop::NoMemory)),

@@ -1,8 +1,8 @@
 //! The script that a word names.
 
-ghost use Rattle.std.specs.Prelude.{◌≡◌, ℕ, ◌≤◌, List};
+ghost use Rattle.std.specs.Prelude.{◌≡◌, ℕ, ◌≤◌, List, length};
 ghost use Rattle.controller.specs.Words.{is_hyphen};
-ghost use Rattle.controller.specs.Calls.{ReadsScript};
+ghost use Rattle.controller.specs.Calls.{ReadsScript, ReadsEdits};
 
 use crate::answer::Stop;
 use crate::status::ScriptReason;
@@ -23,6 +23,35 @@ pub fn is_hyphen(word: &[u8]) -> bool
     b"-".as_slice() == word
 }
 
+/// The edits of the script that bytes are, of which there are no more than a file may have.
+///
+/// # Errors
+/// Why they are none.
+fn edits_within(alloc: Global, bytes: &[u8]) -> Result<Script, Unheld>
+    requires { length bytes.now ≤ MAX_SCRIPT_BYTES }
+    ensures { ReadsEdits bytes.now result }
+{
+    match read(alloc, bytes) {
+        Ok(edits) => Ok(edits),
+        Err(ScriptErr::NoMemory) => Err(Unheld::Stopped(Stop::NoMemory)),
+        Err(fault) => Err(Unheld::ScriptRefused(ScriptReason::Script(fault))),
+    }
+}
+
+/// The edits of the script that bytes are, read as those of a file are.
+///
+/// # Errors
+/// Why they are none.
+pub fn edits_of(alloc: Global, bytes: &[u8]) -> Result<Script, Unheld>
+    ensures { ReadsEdits bytes.now result }
+{
+    if bytes.len() <= MAX_SCRIPT_BYTES {
+        edits_within(alloc, bytes)
+    } else {
+        Err(Unheld::ScriptRefused(ScriptReason::TooLong))
+    }
+}
+
 /// The edits of the script that a word names: none where it is a hyphen, and else those of the file of that name.
 ///
 /// # Errors
@@ -37,11 +66,7 @@ pub fn script_at<F: Files>(alloc: Global, word: &NcText, files: &mut F) -> Resul
     }
     let mut room = Vec::new(alloc);
     match files.read(word, &mut room, MAX_SCRIPT_BYTES as u32) {
-        Ok(()) => match read(alloc, room.as_slice()) {
-            Ok(edits) => Ok(edits),
-            Err(ScriptErr::NoMemory) => Err(Unheld::Stopped(Stop::NoMemory)),
-            Err(fault) => Err(Unheld::ScriptRefused(ScriptReason::Script(fault))),
-        },
+        Ok(()) => edits_within(alloc, room.as_slice()),
         Err(FileErr::TooLong) => Err(Unheld::ScriptRefused(ScriptReason::TooLong)),
         Err(FileErr::Failed) => Err(Unheld::Stopped(Stop::ReadFault)),
         Err(FileErr::NoMemory) => Err(Unheld::Stopped(Stop::NoMemory)),

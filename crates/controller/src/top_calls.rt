@@ -9,6 +9,7 @@ ghost use Rattle.controller.specs.Words.{NameNoFile};
 
 use crate::answer::{Answer, Stop};
 use crate::command::{Command, command_of};
+use crate::large_case::count_case;
 use crate::laws::word_laws;
 use crate::replaying::replay_files;
 use crate::showing::show_file;
@@ -36,6 +37,7 @@ fn answer_to<F: Files>(alloc: Global, words: &[NcText], files: &mut F) -> Result
             },
         ) => replay_files(alloc, project, script, schedule, limit, files),
         Ok(Command::Path { project, step }) => show_file(alloc, project, step, files),
+        Ok(Command::Big { steps, start }) => count_case(alloc, steps, start),
         Ok(Command::Help) => Ok(Answer::Help),
         Ok(Command::Version) => Ok(Answer::Version),
         Err(place) => Ok(Answer::BadWords(place)),

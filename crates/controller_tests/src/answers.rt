@@ -1,6 +1,6 @@
 //! What the controller answers to words and files.
 
-use crate::asked::{PATH, REPLAY, answered, changed, expect, files_with, status_of, top_status_of};
+use crate::asked::{BIG, PATH, REPLAY, answered, changed, expect, files_with, status_of, top_status_of};
 use crate::projects::{
     FACE, FACE_PATH, HOLE, HOLE_LOG, HOLE_LOG_OF_SEVEN, HOLE_PATH, PLATE, POCKET, POCKET_PATH,
     TWO_HOLES,
@@ -285,7 +285,7 @@ macro_rules! bad {
     };
 }
 
-const BAD_WORDS: [Row; 24] = [
+const BAD_WORDS: [Row; 35] = [
     bad!([], 0),
     bad!(["fly"], 0),
     bad!(["replay"], 1),
@@ -308,6 +308,17 @@ const BAD_WORDS: [Row; 24] = [
     bad!(["path", "plate.stp", "12345678901"], 2),
     bad!(["path", "", "10"], 1),
     bad!(["path", "plate.stp", "10", "20"], 3),
+    bad!(["big"], 1),
+    bad!(["big", "0", "0"], 1),
+    bad!(["big", "1001", "0"], 1),
+    bad!(["big", "010", "0"], 1),
+    bad!(["big", "", "0"], 1),
+    bad!(["big", "1"], 2),
+    bad!(["big", "1", ""], 2),
+    bad!(["big", "1", "00"], 2),
+    bad!(["big", "1", "10000000"], 2),
+    bad!(["big", "1", "x"], 2),
+    bad!(["big", "1", "0", "0"], 3),
     bad!(["--help", "me"], 1),
     bad!(["--version", "me"], 1),
 ];
@@ -525,7 +536,7 @@ fn failing_sink(alloc: Global, outage: Outage) -> Result<MemorySink, NoMemory> {
 /// What goes wrong, the words, the status that they give then, and what the sink has taken.
 type Failing = (Outage, &'static [&'static str], Status, &'static str);
 
-const FAILING: [Failing; 6] = [
+const FAILING: [Failing; 8] = [
     (Outage::Read(0), &REPLAY, Status::ReadFault, ""),
     (Outage::Read(0), &PATH, Status::ReadFault, ""),
     (
@@ -546,6 +557,13 @@ const FAILING: [Failing; 6] = [
         &["--help"],
         Status::WriteFault,
         "stepnc runs",
+    ),
+    (Outage::Put(0), &BIG, Status::WriteFault, ""),
+    (
+        Outage::Room(20),
+        &BIG,
+        Status::WriteFault,
+        "big 1 0 done entries",
     ),
 ];
 

@@ -13,6 +13,9 @@ pub const REPLAY: [&str; 5] = ["replay", "plate.stp", "-", "-", "100"];
 /// The words of the path of its workingstep 10.
 pub const PATH: [&str; 3] = ["path", "plate.stp", "10"];
 
+/// The words of the large case of one workingstep.
+pub const BIG: [&str; 3] = ["big", "1", "0"];
+
 /// A list of these words.
 pub fn texts(alloc: Global, words: &[&str]) -> Result<Vec<NcText>, NoMemory> {
     let mut list = Vec::with_capacity(alloc, words.len())?;

@@ -3,7 +3,7 @@
 ghost use Rattle.std.specs.Prelude.{◌≡◌, ℕ, ◌≤◌, ◌<◌, List, [], length, Option};
 ghost use Rattle.nc_outside.specs.Outside.{Rose, Appends};
 
-use crate::asked::{PATH, REPLAY, expect, files_with, replaced, status_of, texts, top_status_of};
+use crate::asked::{BIG, PATH, REPLAY, expect, files_with, replaced, status_of, texts, top_status_of};
 use crate::projects::{HOLE, PLATE};
 use controller::Status;
 use nc_base::{NcText, NoMemory};
@@ -143,7 +143,7 @@ fn expect_pieces(
 }
 
 /// Words, and the names that they give to be read.
-const READS: [(&[&str], &[&str]); 18] = [
+const READS: [(&[&str], &[&str]); 19] = [
     (&REPLAY, &["plate.stp"]),
     (&PATH, &["plate.stp"]),
     (&["path", "plate.stp", "20"], &["plate.stp"]),
@@ -184,6 +184,7 @@ const READS: [(&[&str], &[&str]); 18] = [
     ),
     (&["replay", "plate.stp", "", "-", "7"], &[]),
     (&["path", "plate.stp", "0"], &[]),
+    (&BIG, &[]),
     (&["--help"], &[]),
     (&["--version"], &[]),
 ];
@@ -228,13 +229,14 @@ fn a_refused_file_is_read_once_and_gives_one_line(rt: HostRuntime) -> Result<(),
 }
 
 /// What `plate.stp` holds, words, and how many lines they write.
-const LINES: [(&str, &[&str], u32); 6] = [
+const LINES: [(&str, &[&str], u32); 7] = [
     (HOLE, &REPLAY, 10),
     (HOLE, &["replay", "plate.stp", "-", "-", "3"], 5),
     (HOLE, &PATH, 6),
     (PLATE, &["path", "plate.stp", "13"], 88),
     (HOLE, &["path", "plate.stp", "20"], 1),
     (HOLE, &["fly"], 1),
+    (HOLE, &BIG, 1),
 ];
 
 #[test]

@@ -8,6 +8,8 @@ mod asked;
 #[cfg(test)]
 mod counted;
 #[cfg(test)]
+mod large_case;
+#[cfg(test)]
 mod long_run;
 #[cfg(test)]
 mod projects;

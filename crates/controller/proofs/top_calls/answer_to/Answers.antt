@@ -1,8 +1,8 @@
 use Rattle.std.proofs.Common.{rules, Ok, inl, inr}
-use Rattle.controller.specs.declared.command.Command.TheVariants.{Replay, Path}
+use Rattle.controller.specs.declared.command.Command.TheVariants.{Replay, Path, Big}
 use Rattle.controller.specs.Commands.{Ask}
-use Rattle.controller.proofs.CommandLemmas.{limit_within}
-use Rattle.controller.proofs.TopCallsLemmas.{replay_answers, path_answers}
+use Rattle.controller.proofs.CommandLemmas.{limit_within, case_within}
+use Rattle.controller.proofs.TopCallsLemmas.{replay_answers, path_answers, case_answers}
 use Rattle.controller.proofs.top_calls.answer_to.Goals as goal
 
 pub returns-in-Ok-Replay-clause-untouched : goal.returns-in-Ok-Replay-clause-untouched
@@ -31,6 +31,17 @@ returns-in-Ok-Path-clause-answer g c =
     let asked : Ask c.args.words.now (Ok (Path c.in-Ok-Path.project c.in-Ok-Path.step)) = rw c.in-Ok-Path.field-0-is at c.in-Ok-Path.ensures in
     path_answers c.args.words.now (g.F.Files.holds c.args.files.now) (g.F.Files.faults c.args.files.now) (g.F.Files.faults c.show_file.new.files) c.in-Ok-Path.project.now c.in-Ok-Path.step
     c.show_file.result asked c.show_file.ensures.answer
+
+pub count_case-requires : goal.count_case-requires
+count_case-requires g c =
+    let asked : Ask c.args.words.now (Ok (Big c.in-Ok-Big.steps c.in-Ok-Big.start)) = rw c.in-Ok-Big.field-0-is at c.in-Ok-Big.ensures in
+    case_within c.args.words.now c.in-Ok-Big.steps c.in-Ok-Big.start asked
+
+pub returns-in-Ok-Big-clause-answer : goal.returns-in-Ok-Big-clause-answer
+returns-in-Ok-Big-clause-answer g c =
+    let asked : Ask c.args.words.now (Ok (Big c.in-Ok-Big.steps c.in-Ok-Big.start)) = rw c.in-Ok-Big.field-0-is at c.in-Ok-Big.ensures in
+    case_answers c.args.words.now (g.F.Files.holds c.args.files.now) (g.F.Files.faults c.args.files.now) (g.F.Files.faults c.args.files.now) c.in-Ok-Big.steps c.in-Ok-Big.start c.count_case.result asked
+    c.count_case.ensures
 
 pub returns-in-Ok-Help-clause-untouched : goal.returns-in-Ok-Help-clause-untouched
 returns-in-Ok-Help-clause-untouched g c = search rules
