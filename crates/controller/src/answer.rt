@@ -117,7 +117,8 @@ impl Answer {
     {
         match self {
             Answer::BadWords(place) => Status::BadWords(*place),
-            Answer::Help | Answer::Version | Answer::Shown(_) | Answer::Counted { .. } => Status::Written,
+            Answer::Help | Answer::Version | Answer::Shown(_) | Answer::Counted { .. } =>
+                Status::Written,
             Answer::Refused(reason) => Status::ProjectRefused(*reason),
             Answer::ScriptRefused(reason) => Status::ScriptRefused(*reason),
             Answer::Ran(_, Ending::Done) => Status::Done,
@@ -146,7 +147,10 @@ impl Answer {
                 start,
                 ending,
                 counts,
-            } => put_all(sink, counts_line(*steps, *start, *ending, *counts).as_slice()),
+            } => put_all(
+                sink,
+                counts_line(*steps, *start, *ending, *counts).as_slice(),
+            ),
         }
     }
 }

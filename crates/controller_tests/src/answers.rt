@@ -1,6 +1,8 @@
 //! What the controller answers to words and files.
 
-use crate::asked::{BIG, PATH, REPLAY, answered, changed, expect, files_with, status_of, top_status_of};
+use crate::asked::{
+    BIG, PATH, REPLAY, answered, changed, expect, files_with, status_of, top_status_of,
+};
 use crate::projects::{
     FACE, FACE_PATH, HOLE, HOLE_LOG, HOLE_LOG_OF_SEVEN, HOLE_PATH, PLATE, POCKET, POCKET_PATH,
     TWO_HOLES,

@@ -3,7 +3,9 @@
 ghost use Rattle.std.specs.Prelude.{◌≡◌, ℕ, ◌≤◌, ◌<◌, List, [], length, Option};
 ghost use Rattle.nc_outside.specs.Outside.{Rose, Appends};
 
-use crate::asked::{BIG, PATH, REPLAY, expect, files_with, replaced, status_of, texts, top_status_of};
+use crate::asked::{
+    BIG, PATH, REPLAY, expect, files_with, replaced, status_of, texts, top_status_of,
+};
 use crate::projects::{HOLE, PLATE};
 use controller::Status;
 use nc_base::{NcText, NoMemory};
