@@ -547,6 +547,12 @@ case_within (a ∷ b ∷ l ∷ []) steps start is =
 case_within (a ∷ b ∷ l ∷ x ∷ ws) steps start is = absurd is
 
 -- words of a replay that go on otherwise at some place
+pub replay_stops_1 : (ws : List (List ℕ)) (bad : ℕ) → has_word ws 0 (bytes_eq (codes "replay")) ≡ true → (bad ≡ 1) × (has_word ws 1 is_name ≡ false) → AreBadAt ws bad
+replay_stops_1 ws bad first stop =
+    let five : length replay_line ≡ 5 = refl in
+    let s = stops_before ws replay_line 1 is_name refl (omega arith) stop.1 (replay_1 ws first) in
+    subst (λ (n : ℕ). AreBadAt ws n) (sym stop.0) (bad_replay ws 1 first s.0 s.1)
+
 pub replay_stops_2 : (ws : List (List ℕ)) (name : List ℕ) (bad : ℕ) → has_word ws 0 (bytes_eq (codes "replay")) ≡ true → HasWord ws 1 is_name name → (bad ≡ 2) × (has_word ws 2 is_name ≡ false)
     → AreBadAt ws bad
 replay_stops_2 ws name bad first at_1 stop =
@@ -575,6 +581,12 @@ replay_stops_5 ws name script schedule last bad first at_1 at_2 at_3 at_4 stop =
     subst (λ (n : ℕ). AreBadAt ws n) (sym stop.0) (bad_replay ws 5 first s.0 s.1)
 
 -- words of a path that go on otherwise at some place
+pub path_stops_1 : (ws : List (List ℕ)) (bad : ℕ) → has_word ws 0 (bytes_eq (codes "path")) ≡ true → (bad ≡ 1) × (has_word ws 1 is_name ≡ false) → AreBadAt ws bad
+path_stops_1 ws bad first stop =
+    let three : length path_line ≡ 3 = refl in
+    let s = stops_before ws path_line 1 is_name refl (omega arith) stop.1 (path_1 ws first) in
+    subst (λ (n : ℕ). AreBadAt ws n) (sym stop.0) (bad_path ws 1 first s.0 s.1)
+
 pub path_stops_2 : (ws : List (List ℕ)) (name : List ℕ) (bad : ℕ) → has_word ws 0 (bytes_eq (codes "path")) ≡ true → HasWord ws 1 is_name name → (bad ≡ 2) × (has_word ws 2 is_step ≡ false) → AreBadAt ws bad
 path_stops_2 ws name bad first at_1 stop =
     let three : length path_line ≡ 3 = refl in
@@ -605,6 +617,17 @@ pub big_stops_3 : (ws : List (List ℕ)) (steps start : List ℕ) (bad : ℕ) �
 big_stops_3 ws steps start bad first at_1 at_2 stop =
     let s = stops_behind ws big_line 3 refl stop.1 (big_3 ws start at_2 (big_2 ws steps at_1 (big_1 ws first))) in
     subst (λ (n : ℕ). AreBadAt ws n) (sym stop.0) (bad_big ws 3 first s.0 s.1)
+
+-- more words behind `--help` and `--version`
+pub help_stops : (ws : List (List ℕ)) (bad : ℕ) → has_word ws 0 (bytes_eq (codes "--help")) ≡ true → (bad ≡ 1) × (1 < length ws) → AreBadAt ws bad
+help_stops ws bad first stop =
+    let s = stops_behind ws help_line 1 refl stop.1 (help_1 ws first) in
+    subst (λ (n : ℕ). AreBadAt ws n) (sym stop.0) (bad_help ws 1 first s.0 s.1)
+
+pub version_stops : (ws : List (List ℕ)) (bad : ℕ) → has_word ws 0 (bytes_eq (codes "--version")) ≡ true → (bad ≡ 1) × (1 < length ws) → AreBadAt ws bad
+version_stops ws bad first stop =
+    let s = stops_behind ws version_line 1 refl stop.1 (version_1 ws first) in
+    subst (λ (n : ℕ). AreBadAt ws n) (sym stop.0) (bad_version ws 1 first s.0 s.1)
 
 pub whole_help : (ws : List (List ℕ)) → has_word ws 0 (bytes_eq (codes "--help")) ≡ true → length ws ≤ 1 → is_line ws help_line ≡ true
 whole_help ws first short = begun_line ws help_line 1 (help_1 ws first) short refl

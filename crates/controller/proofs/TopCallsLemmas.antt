@@ -117,6 +117,10 @@ no_case ws holds steps start (reasons.Store fault) asked is = inr (record { step
 no_case ws holds steps start (reasons.Tree fault) asked is = inr (record { steps = steps; start = start; asked = asked; refused = is })
 no_case ws holds steps start (reasons.Definition n fault) asked is = inr (record { steps = steps; start = start; asked = asked; refused = is })
 
+said : (n from steps start : ℕ) (ending : Ending) (counts sums : Counts) → n ≡ steps → from ≡ start → counts ≡ sums → counts_line n from ending counts ≡ counts_line steps start ending sums
+said n from steps start ending counts sums e f g =
+    ap (λ (k : ℕ). counts_line k from ending counts) e ∙ ap (λ (k : ℕ). counts_line steps k ending counts) f ∙ ap (counts_line steps start ending) g
+
 -- what comes of a large case is right for the words that ask for it
 counted : (ws : List (List ℕ)) (holds : List ℕ → Option (List ℕ)) (steps start : ℕ) (a : Answer) → IsBig ws steps start → CountsCase steps start a → IsAnswer ws holds a
 counted ws holds steps start (answers.BadWords place) asked is = absurd is
@@ -126,24 +130,21 @@ counted ws holds steps start (answers.Refused reason) asked is = (no_case ws hol
 counted ws holds steps start (answers.ScriptRefused reason) asked is = (inr (inr (record { steps = steps; start = start; asked = asked; project = is.0; held = is.1; refused = is.2 })), refl)
 counted ws holds steps start (answers.Ran t ending) asked is = absurd is
 counted ws holds steps start (answers.Shown d) asked is = absurd is
-counted ws holds steps start (answers.Counted n from ending counts) asked (p, held, edits, scripted, same, since, run, sums) =
+counted ws holds steps start (answers.Counted n from ending counts) asked is =
     inr (inl (record {
       steps = steps;
       start = start;
       asked = asked;
-      project = p;
-      held = held;
-      edits = edits;
-      scripted = scripted;
-      t = replayed p edits [] case_limit;
+      project = is.0;
+      held = is.1;
+      edits = is.2;
+      scripted = is.3;
+      t = replayed is.0 is.2 [] case_limit;
       ending = ending;
-      run = run;
+      run = is.4.2;
       replayed_so = refl;
-      says = said n from counts same since sums;
+      says = said n from steps start ending counts (counts_of (replayed is.0 is.2 [] case_limit)) is.4.0 is.4.1 is.4.3;
     }))
-  where
-    said : (m o : ℕ) (c : Counts) → m ≡ steps → o ≡ start → c ≡ counts_of (replayed p edits [] case_limit) → counts_line m o ending c ≡ counts_line steps start ending (counts_of (replayed p edits [] case_limit))
-    said m o c e f g = ap (λ (k : ℕ). counts_line k o ending c) e ∙ ap (λ (k : ℕ). counts_line steps k ending c) f ∙ ap (counts_line steps start ending) g
 
 -- what comes of a large case, or why nothing does, answers the words that ask for it
 pub case_answers : (ws : List (List ℕ)) (holds : List ℕ → Option (List ℕ)) (before now : List ℕ → ℕ) (steps start : ℕ) (r : Result Answer Stop) → IsBig ws steps start → OrNoMemory (CountsCase steps start) r

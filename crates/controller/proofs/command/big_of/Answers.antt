@@ -4,7 +4,7 @@ use Rattle.controller.proofs.command.big_of.Goals as goal
 
 pub returns-in_err-steps : goal.returns-in_err-steps
 returns-in_err-steps c =
-    let p = err_from_is_err_and c.from_residual-in_err-steps.result c.from_residual-in_err-steps.ensures.1 in
+    let p = err_from_is_err_and c.from_residual.result c.from_residual.ensures.1 in
     rw (p.1, p.2) (big_stops_1 c.args.words.now c.in_err-steps.field-0.0 c.requires c.in_err-steps.ensures)
 
 pub returns-in_err-start : goal.returns-in_err-start

@@ -1,6 +1,11 @@
 use Rattle.std.proofs.lemmas.Result.{err_from_is_err_and}
-use Rattle.controller.proofs.CommandLemmas.{path_stops_2, path_stops_3}
+use Rattle.controller.proofs.CommandLemmas.{path_stops_1, path_stops_2, path_stops_3}
 use Rattle.controller.proofs.command.path_of.Goals as goal
+
+pub returns-in_err-project : goal.returns-in_err-project
+returns-in_err-project c =
+    let p = err_from_is_err_and c.from_residual.result c.from_residual.ensures.1 in
+    rw (p.1, p.2) (path_stops_1 c.args.words.now c.in_err-project.field-0.0 c.requires c.in_err-project.ensures)
 
 pub returns-in_err-step : goal.returns-in_err-step
 returns-in_err-step c =
