@@ -20,7 +20,8 @@ use Rattle.controller.specs.Words.{is_hyphen}
 use Rattle.controller.specs.ScriptText.{ScriptedBy, RefusesScript}
 use Rattle.controller.specs.ScheduleText.{ScheduledBy, RefusesSchedule}
 use Rattle.controller.specs.Asked.{replayed}
-use Rattle.controller.specs.Calls.{ReadsFile, ReadsScript, ReadsSchedule, OrRunStops, Runs, OrReplayStops, Replays, answer_without}
+use Rattle.controller.specs.Case.{case_project, case_script}
+use Rattle.controller.specs.Calls.{ReadsFile, ReadsProject, ReadsEdits, ReadsScript, ReadsSchedule, OrRunStops, Runs, OrReplayStops, Replays, CountsCase, OrNoMemory, answer_without}
 
 -- a count that rose behind stretches in which it didn't fall rose over the whole
 rose_later : (a b c : ℕ) → a ≤ b → Rose b c → Rose a c
@@ -96,3 +97,15 @@ unscripted holds read before mid now name script schedule limit p (unheld.Script
 unscripted holds read before mid now name script schedule limit p (unheld.Stopped stops.ReadFault) file kept counted is =
     inr (inl (is.0, rose_later (before script) (mid script) (now script) counted is.1))
 unscripted holds read before mid now name script schedule limit p (unheld.Stopped stops.NoMemory) file kept counted is = tt
+
+-- no large case, for want of a script
+pub case_unscripted : (steps start : ℕ) (text script : List ℕ) (p : List Entity) (why : Unheld) → text ≡ case_project steps start → ReadsProject text (Ok p) → script ≡ case_script steps start → ReadsEdits script (Err why)
+    → OrNoMemory (CountsCase steps start) (answer_without why)
+case_unscripted steps start text script p (unheld.Refused reason) made is written refused = absurd refused
+case_unscripted steps start text script p (unheld.ScriptRefused reason) made is written refused = (
+  model_of p,
+  subst (λ (bytes : List ℕ). Holds bytes (model_of p)) made is,
+  subst (λ (bytes : List ℕ). RefusesScript bytes reason) written refused,
+)
+case_unscripted steps start text script p (unheld.Stopped stops.ReadFault) made is written refused = absurd refused
+case_unscripted steps start text script p (unheld.Stopped stops.NoMemory) made is written refused = tt
