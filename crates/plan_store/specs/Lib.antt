@@ -1,0 +1,5 @@
+pub mod Waits
+pub mod Stage
+pub mod StepAhead
+pub mod Windows
+pub mod Holds
