@@ -9,9 +9,8 @@ use Rattle.std.proofs.lemmas.Option.{slice_get_cases, slice_get-map, get_or_from
 use Rattle.path_blocks.specs.declared.def.Def.{Def}
 use Rattle.plan_store.specs.declared.ticket.Ticket.{Ticket}
 use Rattle.plan_store.specs.declared.ticket.TicketState.{TicketState}
-use Rattle.plan_store.specs.Stage.{Stage, state_of}
-use Rattle.plan_store.specs.StepAhead.{StepAhead, ticket_of, ahead_all, is_step, step_in, first_waiting, window, up_to, behind, placed, wanted, told, changed}
-use Rattle.plan_store.specs.Waits.{is_waiting}
+use Rattle.plan_store.specs.Stage.{Stage, state_of, is_waiting}
+use Rattle.plan_store.specs.StepAhead.{StepAhead, ticket_of, ahead_all, is_step, step_in, ticket_in, first_waiting, window, up_to, behind, placed, wanted, told, changed}
 use Rattle.plan_store.specs.Windows.{AreWindows}
 use Rattle.plan_store.specs.Holds.{Holds}
 use Rattle.plan_store.proofs.ListLemmas.{count_by-map, find_index, find_none, find_within, find_passes, filter_nothing}
@@ -92,15 +91,26 @@ pub windows_told : (v : ℕ) (s : Stage) (xs : List StepAhead) (i : ℕ) (a : St
 windows_told v s xs i a w at =
     subst AreWindows (sym (told_at v s xs i a w at)) (windows_changed a.step (told v s) (λ _. refl) (λ _. refl) xs w)
 
-pub none_counted : (n : ℕ) (xs : List StepAhead) → is_some (step_in xs n) ≡ false → length (filter (is_step n) xs) ≡ 0
-none_counted n xs h = ap length (filter_nothing (is_step n) xs (none_of (step_in xs n) h))
+-- a step that is ahead has a ticket
+ticket_if_step : (o : Option StepAhead) → is_some (option_map ticket_of o) ≡ is_some o
+ticket_if_step None = refl
+ticket_if_step (Some a) = refl
+
+pub step_of_ticket : (n : ℕ) (xs : List StepAhead) → is_some (ticket_in xs n) ≡ true → (a : StepAhead) × (step_in xs n ≡ Some a)
+step_of_ticket n xs h = some_of (step_in xs n) (sym (ticket_if_step (step_in xs n)) ∙ h)
+
+pub none_counted : (n : ℕ) (xs : List StepAhead) → is_some (ticket_in xs n) ≡ false → length (filter (is_step n) xs) ≡ 0
+none_counted n xs h = ap length (filter_nothing (is_step n) xs (none_of (step_in xs n) (sym (ticket_if_step (step_in xs n)) ∙ h)))
 
 pub step_found : (n : ℕ) (xs : List StepAhead) (a : StepAhead) → step_in xs n ≡ Some a → is_step n a ≡ true
 step_found n xs a h = find_passes (is_step n) xs a h
 
-pub some_and : {X : Type 0} (o : Option X) (P : X → Type 0) → IsSomeAnd o P → (x : X) × (o ≡ Some x) × P x
-some_and None P h = absurd h
-some_and (Some x) P h = (x, refl, h)
+ticket_and : (o : Option StepAhead) (P : Ticket → Type 0) → IsSomeAnd (option_map ticket_of o) P → (a : StepAhead) × (o ≡ Some a) × P (ticket_of a)
+ticket_and None P h = absurd h
+ticket_and (Some a) P h = (a, refl, h)
+
+pub step_and : (n : ℕ) (xs : List StepAhead) (P : Ticket → Type 0) → IsSomeAnd (ticket_in xs n) P → (a : StepAhead) × (step_in xs n ≡ Some a) × P (ticket_of a)
+step_and n xs P h = ticket_and (step_in xs n) P h
 
 -- the step's ticket at an index
 pub step_within : (n : ℕ) (xs : List StepAhead) (i : ℕ) → position (λ (t : Ticket). t.step == n) (map ticket_of xs) ≡ Some i → i < length xs
@@ -118,6 +128,6 @@ told_ticket t a v state s same here =
 pub row_inserted : {Y : Type 0} (f : StepAhead → Y) (ys new : List Y) (xs : List StepAhead) (i : ℕ) (n c v : ℕ) → AreWindows xs → new ≡ insert ys i (f (wanted n c v)) → ys ≡ map f xs → i ≡ length (up_to xs c) → new ≡ map f (placed xs n c v)
 row_inserted {Y = Y} f ys new xs i n c v w made row end =
     made
-      ∙ ap (λ (zs : List Y). insert zs i (f (wanted n c v))) row
-      ∙ ap (λ (j : ℕ). insert (map f xs) j (f (wanted n c v))) end
-      ∙ row_placed f xs n c v w
+    ∙ ap (λ (zs : List Y). insert zs i (f (wanted n c v))) row
+    ∙ ap (λ (j : ℕ). insert (map f xs) j (f (wanted n c v))) end
+    ∙ row_placed f xs n c v w

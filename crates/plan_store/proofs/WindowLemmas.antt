@@ -6,7 +6,7 @@ use Rattle.std.proofs.lemmas.Bool.Decides.{nat_tests}
 use Rattle.std.proofs.lemmas.List.{length-map, length-append, map-append, append_assoc, append-nil}
 use Rattle.std.proofs.lemmas.List.Elements.{filter-append}
 use Rattle.std.proofs.lemmas.List.Folds.{list_all-append}
-use Rattle.plan_store.specs.declared.limits.TheConstants.{WINDOW_CHANNELS, MAX_WINDOW}
+use Rattle.plan_store.specs.declared.limits.TheConstants.{WINDOW_CHANNELS, MAX_WINDOW, MAX_TICKETS}
 use Rattle.plan_store.specs.StepAhead.{StepAhead, is_step, window, up_to, behind, changed, taken, placed, wanted}
 use Rattle.plan_store.specs.Windows.{AreWindows}
 use Rattle.plan_store.proofs.ListLemmas.{filter-yes, filter-no, filter-map_same, filter_comm, filter_within, filter_without, length-filter_filter, list_all-filter, list_all-map_same, filter_everything}
@@ -32,11 +32,11 @@ windows_map g s c xs w = record {
 pub windows_changed : (n : ℕ) (f : StepAhead → StepAhead) → ((a : StepAhead) → (f a).step ≡ a.step) → ((a : StepAhead) → (f a).channel ≡ a.channel) → (xs : List StepAhead) → AreWindows xs → AreWindows (changed n f xs)
 windows_changed n f s c xs w =
     windows_map
-      (λ a. cond (is_step n a) (f a) a)
-      (λ a. elim (is_step n a) as (λ b. (cond b (f a) a).step ≡ a.step) [ true ↦ s a | false ↦ refl ])
-      (λ a. elim (is_step n a) as (λ b. (cond b (f a) a).channel ≡ a.channel) [ true ↦ c a | false ↦ refl ])
-      xs
-      w
+    (λ a. cond (is_step n a) (f a) a)
+    (λ a. elim (is_step n a) as (λ b. (cond b (f a) a).step ≡ a.step) [ true ↦ s a | false ↦ refl ])
+    (λ a. elim (is_step n a) as (λ b. (cond b (f a) a).channel ≡ a.channel) [ true ↦ c a | false ↦ refl ])
+    xs
+    w
 
 windows_filter : (q : StepAhead → Bool) (xs : List StepAhead) → AreWindows xs → AreWindows (filter q xs)
 windows_filter q xs w = record {
@@ -67,8 +67,9 @@ few_placed : (p : StepAhead → Bool) (xs : List StepAhead) (n c v most : ℕ) �
 few_placed p xs n c v most w room few =
     let all = counted_placed p xs n c v w in
     elim (cases_Bool (p (wanted n c v))) [
-      inl h ↦ (let one = ap length (filter-yes p (wanted n c v) [] h) in let r = room h in omega arith)
-    | inr h ↦ (let one = ap length (filter-no p (wanted n c v) [] h) in omega arith) ]
+      | inl h ↦ (let one = ap length (filter-yes p (wanted n c v) [] h) in let r = room h in omega arith)
+      | inr h ↦ (let one = ap length (filter-no p (wanted n c v) [] h) in omega arith)
+    ]
 
 -- the channels up to a later one, and those behind an earlier one
 order_placed : (xs : List StepAhead) (n c v k : ℕ) → AreWindows xs → up_to (placed xs n c v) k ++ behind (placed xs n c v) k ≡ placed xs n c v
@@ -81,30 +82,31 @@ order_placed xs n c v k w =
     let p_split = filter-append ps low (a ∷ high) in
     let q_split = filter-append qs low (a ∷ high) in
     elim (cases_lt k c) [
-      inl h ↦ (
-        let low_in = (windows_filter (λ x. nat_le x.channel c) xs w).in_order k in
-        let p_here = filter-no ps a high (lt-leb c k h) in
-        let p_high = filter_without ps (λ x. nat_lt c x.channel) (λ x e. lt-leb x.channel k (omega (arith, ltb-true c x.channel e))) xs in
-        let q_here = filter-yes qs a high (lt-ltb k c h) in
-        let q_high = filter_within qs (λ x. nat_lt c x.channel) (λ x e. lt-ltb k x.channel (omega (arith, ltb-true c x.channel e))) xs in
-        let p_all : filter ps (low ++ a ∷ high) ≡ filter ps low = p_split ∙ ap (λ ys. filter ps low ++ ys) (p_here ∙ p_high) ∙ append-nil (filter ps low) in
-        let q_all : filter qs (low ++ a ∷ high) ≡ filter qs low ++ a ∷ high = q_split ∙ ap (λ ys. filter qs low ++ ys) (q_here ∙ ap (λ ys. a ∷ ys) q_high) in
-        rw (p_all, q_all) (sym (append_assoc (filter ps low) (filter qs low) (a ∷ high)) ∙ ap (λ ys. ys ++ a ∷ high) low_in))
-    | inr h ↦ (
-        let high_in = (windows_filter (λ x. nat_lt c x.channel) xs w).in_order k in
-        let p_here = filter-yes ps a high (le-leb c k h) in
-        let p_low = filter_within ps (λ x. nat_le x.channel c) (λ x e. le-leb x.channel k (omega (arith, leb-true x.channel c e))) xs in
-        let q_here = filter-no qs a high (le-ltb k c h) in
-        let q_low = filter_without qs (λ x. nat_le x.channel c) (λ x e. le-ltb k x.channel (omega (arith, leb-true x.channel c e))) xs in
-        let p_all : filter ps (low ++ a ∷ high) ≡ low ++ a ∷ filter ps high = p_split ∙ ap (λ ys. ys ++ filter ps (a ∷ high)) p_low ∙ ap (λ ys. low ++ ys) p_here in
-        let q_all : filter qs (low ++ a ∷ high) ≡ filter qs high = q_split ∙ ap (λ ys. ys ++ filter qs (a ∷ high)) q_low ∙ q_here in
-        rw (p_all, q_all) (append_assoc low (a ∷ filter ps high) (filter qs high) ∙ ap (λ ys. low ++ a ∷ ys) high_in)) ]
+      | inl h ↦ (
+          let low_in = (windows_filter (λ x. nat_le x.channel c) xs w).in_order k in
+          let p_here = filter-no ps a high (lt-leb c k h) in
+          let p_high = filter_without ps (λ x. nat_lt c x.channel) (λ x e. lt-leb x.channel k (omega (arith, ltb-true c x.channel e))) xs in
+          let q_here = filter-yes qs a high (lt-ltb k c h) in
+          let q_high = filter_within qs (λ x. nat_lt c x.channel) (λ x e. lt-ltb k x.channel (omega (arith, ltb-true c x.channel e))) xs in
+          let p_all : filter ps (low ++ a ∷ high) ≡ filter ps low = p_split ∙ ap (λ ys. filter ps low ++ ys) (p_here ∙ p_high) ∙ append-nil (filter ps low) in
+          let q_all : filter qs (low ++ a ∷ high) ≡ filter qs low ++ a ∷ high = q_split ∙ ap (λ ys. filter qs low ++ ys) (q_here ∙ ap (λ ys. a ∷ ys) q_high) in
+          rw (p_all, q_all) (sym (append_assoc (filter ps low) (filter qs low) (a ∷ high)) ∙ ap (λ ys. ys ++ a ∷ high) low_in))
+      | inr h ↦ (
+          let high_in = (windows_filter (λ x. nat_lt c x.channel) xs w).in_order k in
+          let p_here = filter-yes ps a high (le-leb c k h) in
+          let p_low = filter_within ps (λ x. nat_le x.channel c) (λ x e. le-leb x.channel k (omega (arith, leb-true x.channel c e))) xs in
+          let q_here = filter-no qs a high (le-ltb k c h) in
+          let q_low = filter_without qs (λ x. nat_le x.channel c) (λ x e. le-ltb k x.channel (omega (arith, leb-true x.channel c e))) xs in
+          let p_all : filter ps (low ++ a ∷ high) ≡ low ++ a ∷ filter ps high = p_split ∙ ap (λ ys. ys ++ filter ps (a ∷ high)) p_low ∙ ap (λ ys. low ++ ys) p_here in
+          let q_all : filter qs (low ++ a ∷ high) ≡ filter qs high = q_split ∙ ap (λ ys. ys ++ filter qs (a ∷ high)) q_low ∙ q_here in
+          rw (p_all, q_all) (append_assoc low (a ∷ filter ps high) (filter qs high) ∙ ap (λ ys. low ++ a ∷ ys) high_in))
+    ]
 
 pub windows_placed : (xs : List StepAhead) (n c v : ℕ) → AreWindows xs → c < WINDOW_CHANNELS → length (filter (is_step n) xs) ≡ 0 → length (window xs c) < MAX_WINDOW → AreWindows (placed xs n c v)
 windows_placed xs n c v w within new room = record {
   channels =
-    let p : StepAhead → Bool = λ x. nat_lt x.channel WINDOW_CHANNELS in
-    list_all-append p (up_to xs c) (wanted n c v ∷ behind xs c)
+      let p : StepAhead → Bool = λ x. nat_lt x.channel WINDOW_CHANNELS in
+      list_all-append p (up_to xs c) (wanted n c v ∷ behind xs c)
       ∙ and_from _ _ (list_all-filter p (λ x. nat_le x.channel c) xs w.channels) (and_from _ _ (lt-ltb c WINDOW_CHANNELS within) (list_all-filter p (λ x. nat_lt c x.channel) xs w.channels));
   in_order = λ k. order_placed xs n c v k w;
   few = λ k. few_placed (λ x. nat_eq x.channel k) xs n c v MAX_WINDOW w (λ e. subst (λ j. length (window xs j) < MAX_WINDOW) (eqb-true c k e) room) (w.few k);
@@ -131,11 +133,12 @@ room_below : (xs : List StepAhead) (c : ℕ) → AreWindows xs → length (windo
 room_below xs c w room zero h = omega arith
 room_below xs c w room (suc k) h =
     elim (cases_eq c k) [
-      inl e ↦ (let here : length (window xs k) < MAX_WINDOW = subst (λ j. length (window xs j) < MAX_WINDOW) e room in omega (arith, one_channel_more k xs, all_below xs w k))
-    | inr e ↦ (let low : c < k = omega arith in omega (arith, one_channel_more k xs, room_below xs c w room k low, w.few k)) ]
+      | inl e ↦ (let here : length (window xs k) < MAX_WINDOW = subst (λ j. length (window xs j) < MAX_WINDOW) e room in omega (arith, one_channel_more k xs, all_below xs w k))
+      | inr e ↦ (let low : c < k = omega arith in omega (arith, one_channel_more k xs, room_below xs c w room k low, w.few k))
+    ]
 
 -- a channel with room is room in the store
-pub room_in_all : (xs : List StepAhead) (c : ℕ) → AreWindows xs → c < WINDOW_CHANNELS → length (window xs c) < MAX_WINDOW → length xs < 32
+pub room_in_all : (xs : List StepAhead) (c : ℕ) → AreWindows xs → c < WINDOW_CHANNELS → length (window xs c) < MAX_WINDOW → length xs < MAX_TICKETS
 room_in_all xs c w within room =
     let all = ap length (filter_everything (λ a. nat_lt a.channel WINDOW_CHANNELS) xs w.channels) in
     omega (arith, room_below xs c w room WINDOW_CHANNELS within)

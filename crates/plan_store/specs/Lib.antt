@@ -1,4 +1,3 @@
-pub mod Waits
 pub mod Stage
 pub mod StepAhead
 pub mod Windows

@@ -29,8 +29,14 @@ stage_of Handed plan = Asked
 stage_of Kept None = Asked
 stage_of Kept (Some d) = Held d
 
--- the plan is there
-abbrev pub is_held : Stage → Bool
-is_held Wanted = false
-is_held Asked = false
-is_held (Held d) = true
+-- the state of a ticket that no planner was asked about yet
+abbrev pub is_waiting : TicketState → Bool
+is_waiting Waiting = true
+is_waiting Handed = false
+is_waiting Kept = false
+
+-- the state of one whose plan is there
+abbrev pub is_kept : TicketState → Bool
+is_kept Waiting = false
+is_kept Handed = false
+is_kept Kept = true

@@ -1,9 +1,9 @@
 -- Steps ahead: those that are planned before they are dispatched, each with its ticket and, once it is there, its plan.
 use Rattle.std.specs.Prelude.{ℕ, ◌==◌, ◌++◌, Bool, not, List, [], ◌∷◌, Option, Some, None, option_and_then, nat_le, nat_lt, map, filter, find, if◌then◌else◌}
+use Rattle.std.specs.Option.{option_map}
 use Rattle.path_blocks.specs.declared.def.Def.{Def}
 use Rattle.plan_store.specs.declared.ticket.Ticket.{Ticket}
-use Rattle.plan_store.specs.Stage.{Stage, Wanted, Asked, Held, state_of, stage_of, plan_at}
-use Rattle.plan_store.specs.Waits.{is_waiting}
+use Rattle.plan_store.specs.Stage.{Stage, Wanted, Asked, Held, state_of, stage_of, plan_at, is_waiting}
 
 -- a step ahead: its channel, the version that its plan is to be of, and how far the plan is
 pub record StepAhead : Type 0 where
@@ -41,6 +41,10 @@ waits a = is_waiting (ticket_of a).state
 -- what is known of a step, where it is ahead
 abbrev pub step_in : List StepAhead → ℕ → Option StepAhead
 step_in all n = find (is_step n) all
+
+-- its ticket, where it has one
+abbrev pub ticket_in : List StepAhead → ℕ → Option Ticket
+ticket_in all n = option_map ticket_of (step_in all n)
 
 -- the plan of a step that is ahead, where that is there
 abbrev pub plan_in : List StepAhead → ℕ → Option Def

@@ -7,4 +7,4 @@ pub const WINDOW_CHANNELS: u8 = 8;
 pub const MAX_WINDOW: u32 = 4;
 
 /// The most tickets: as many for each channel as it has steps ahead.
-pub const MAX_TICKETS: usize = 32;
+pub const MAX_TICKETS: usize = WINDOW_CHANNELS as usize * MAX_WINDOW as usize;

@@ -4,7 +4,7 @@ ghost use Rattle.std.specs.Prelude.{◌≡◌, ◌<◌, ◌≤◌, [], length, m
 ghost use Rattle.std.specs.Option.{option_map, ForSome};
 ghost use Rattle.plan_store.specs.declared.limits.TheConstants.{WINDOW_CHANNELS, MAX_WINDOW};
 
-use crate::limits::{MAX_WINDOW, WINDOW_CHANNELS};
+use crate::limits::{MAX_TICKETS, MAX_WINDOW, WINDOW_CHANNELS};
 use crate::rows::{count_of, count_up_to, first_waiting, index_of};
 use crate::ticket::{Made, Ticket, TicketState};
 use arrayvec::ArrayVec;
@@ -16,8 +16,8 @@ use std::marker::Model;
 /// memory of its own. Contracts see the list of steps ahead, each with its ticket and its plan.
 #[derive(Drop)]
 pub struct PlanStore {
-    tickets: ArrayVec<Ticket, 32>,
-    plans: ArrayVec<Option<Plan>, 32>,
+    tickets: ArrayVec<Ticket, MAX_TICKETS>,
+    plans: ArrayVec<Option<Plan>, MAX_TICKETS>,
 }
 
 impl Model for PlanStore {
@@ -33,8 +33,8 @@ impl Model for PlanStore {
 }
 
 impl PlanStore {
-    ghost use Rattle.plan_store.specs.StepAhead.{ticket_of, told, step_in, plan_in, first_waiting, window, placed, renewed, handed, kept, taken};
-    ghost use Rattle.plan_store.specs.Stage.{state_of, stage_of, plan_at, is_held};
+    ghost use Rattle.plan_store.specs.StepAhead.{ticket_of, told, step_in, ticket_in, plan_in, first_waiting, window, placed, renewed, handed, kept, taken};
+    ghost use Rattle.plan_store.specs.Stage.{state_of, stage_of, plan_at, is_kept};
     ghost use Rattle.plan_store.specs.Windows.{AreWindows};
 
     /// No tickets.
@@ -57,7 +57,7 @@ impl PlanStore {
 
     /// The step's ticket. None comes exactly where it has none.
     pub fn ticket_of(&self, step: Number) -> Option<Ticket>
-        ensures { result ≡ option_map ticket_of (step_in self.now step) }
+        ensures { result ≡ ticket_in self.now step }
     {
         let index = index_of(&self.tickets, step)?;
         Some(self.ticket_at(index))
@@ -75,7 +75,7 @@ impl PlanStore {
     /// `MAX_WINDOW`, and the step has none.
     pub fn place(&mut self, step: Number, channel: u8, version: u32)
         requires within { channel < WINDOW_CHANNELS }
-        requires new { IsNone (step_in self.old step) }
+        requires new { IsNone (ticket_in self.old step) }
         requires room { length (window self.old channel) < MAX_WINDOW }
         ensures { self.new ≡ placed self.old step channel version }
     {
@@ -100,7 +100,7 @@ impl PlanStore {
 
     /// Where the step's ticket is, which it has.
     fn seek(&self, step: Number) -> usize
-        requires { IsSome (step_in self.now step) }
+        requires { IsSome (ticket_in self.now step) }
         ensures there { slice_get self.now result ≡ step_in self.now step }
         ensures windows { AreWindows self.now }
     {
@@ -129,7 +129,7 @@ impl PlanStore {
 
     /// Lets the step's ticket wait again, for a plan of this version, and drops its plan. The step has a ticket.
     pub fn renew(&mut self, step: Number, version: u32)
-        requires { IsSome (step_in self.old step) }
+        requires { IsSome (ticket_in self.old step) }
         ensures { self.new ≡ renewed self.old step version }
     {
         let index = self.seek(step);
@@ -147,9 +147,9 @@ impl PlanStore {
         Some((ticket.step, ticket.version))
     }
 
-    /// Keeps a plan. The step has a ticket, which is at the plan's version and has no plan.
+    /// Keeps a plan. The step has a ticket, which is at the plan's version and isn't `Kept`.
     pub fn keep(&mut self, made: Made)
-        requires { IsSomeAnd (step_in self.old made.step) (λ a. (a.version ≡ made.version) × (is_held a.stage ≡ false)) }
+        requires { IsSomeAnd (ticket_in self.old made.step) (λ t. (t.version ≡ made.version) × (is_kept t.state ≡ false)) }
         ensures { self.new ≡ kept self.old made.step made.plan }
     {
         let index = self.seek(made.step);
@@ -158,7 +158,7 @@ impl PlanStore {
 
     /// Takes the step's ticket away, and gives the plan that was kept. None comes exactly where no plan was kept. The step has a ticket.
     pub fn take(&mut self, step: Number) -> Option<Plan>
-        requires { IsSome (step_in self.old step) }
+        requires { IsSome (ticket_in self.old step) }
         ensures plan { result ≡ plan_in self.old step }
         ensures taken { self.new ≡ taken self.old step }
     {

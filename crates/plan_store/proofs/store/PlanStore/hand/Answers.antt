@@ -42,6 +42,6 @@ returns-clause-handed c =
     let told_so = c.ticket_at-ticket.ensures a.0 a.1 in
     let found : first_waiting c.args.self.now ≡ Some a.0 = sym at ∙ a.1 in
     c.put.ensures a.0 a.1
-      ∙ ap (λ (t : Ticket). set c.args.self.now c.in_ok-index.index (told t.version Asked a.0)) told_so
-      ∙ changed_at a.0.step asked c.args.self.now c.in_ok-index.index a.0 (rows.windows.once a.0.step) a.1 (eq-eqb a.0.step a.0.step refl)
-      ∙ ap (asked_for c.args.self.now) (sym found)
+    ∙ ap (λ (t : Ticket). set c.args.self.now c.in_ok-index.index (told t.version Asked a.0)) told_so
+    ∙ changed_at a.0.step asked c.args.self.now c.in_ok-index.index a.0 (rows.windows.once a.0.step) a.1 (eq-eqb a.0.step a.0.step refl)
+    ∙ ap (asked_for c.args.self.now) (sym found)

@@ -35,9 +35,9 @@ invariant_of-self c =
     let all = end_of c.args.self.now c.args.channel in
     let end : c.count_up_to-end.result ≡ length (up_to c.args.self.now c.args.channel) = cc in
     holds_of _ _ (placed c.args.self.now c.args.step c.args.channel c.args.version)
-      (row_inserted ticket_of _ _ c.args.self.now c.count_up_to-end.result c.args.step c.args.channel c.args.version rows.windows c.insert.ensures.items rows.tickets_are end)
-      (row_inserted plan_of _ _ c.args.self.now c.count_up_to-end.result c.args.step c.args.channel c.args.version rows.windows c.insert-2.ensures.items rows.plans_are end)
-      (windows_placed c.args.self.now c.args.step c.args.channel c.args.version rows.windows c.requires.within (none_counted c.args.step c.args.self.now c.requires.new) c.requires.room)
+    (row_inserted ticket_of _ _ c.args.self.now c.count_up_to-end.result c.args.step c.args.channel c.args.version rows.windows c.insert.ensures.items rows.tickets_are end)
+    (row_inserted plan_of _ _ c.args.self.now c.count_up_to-end.result c.args.step c.args.channel c.args.version rows.windows c.insert-2.ensures.items rows.plans_are end)
+    (windows_placed c.args.self.now c.args.step c.args.channel c.args.version rows.windows c.requires.within (none_counted c.args.step c.args.self.now c.requires.new) c.requires.room)
 
 pub returns : goal.returns
 returns c =
@@ -46,5 +46,5 @@ returns c =
     let all = end_of c.args.self.now c.args.channel in
     let end : c.count_up_to-end.result ≡ length (up_to c.args.self.now c.args.channel) = cc in
     view_of _ _ (placed c.args.self.now c.args.step c.args.channel c.args.version)
-      (row_inserted ticket_of _ _ c.args.self.now c.count_up_to-end.result c.args.step c.args.channel c.args.version rows.windows c.insert.ensures.items rows.tickets_are end)
-      (row_inserted plan_of _ _ c.args.self.now c.count_up_to-end.result c.args.step c.args.channel c.args.version rows.windows c.insert-2.ensures.items rows.plans_are end)
+    (row_inserted ticket_of _ _ c.args.self.now c.count_up_to-end.result c.args.step c.args.channel c.args.version rows.windows c.insert.ensures.items rows.tickets_are end)
+    (row_inserted plan_of _ _ c.args.self.now c.count_up_to-end.result c.args.step c.args.channel c.args.version rows.windows c.insert-2.ensures.items rows.plans_are end)

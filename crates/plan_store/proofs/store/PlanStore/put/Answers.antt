@@ -13,9 +13,9 @@ invariant_of-self c =
     let b = told c.args.version s a.0 in
     let here = told_ticket c.ticket_at-ticket.result a.0 c.args.version c.args.state s (c.ticket_at-ticket.ensures a.0 a.1) c.requires.told in
     holds_of _ _ (set c.args.self.now c.args.index b)
-      (row_written ticket_of _ _ c.args.self.now c.args.index _ b rows.tickets_are c.as_mut_slice.ensures.value here)
-      (row_written plan_of _ _ c.args.self.now c.args.index _ b rows.plans_are c.as_mut_slice-2.ensures.value (sym c.requires.planned))
-      (windows_told c.args.version s c.args.self.now c.args.index a.0 rows.windows a.1)
+    (row_written ticket_of _ _ c.args.self.now c.args.index _ b rows.tickets_are c.as_mut_slice.ensures.value here)
+    (row_written plan_of _ _ c.args.self.now c.args.index _ b rows.plans_are c.as_mut_slice-2.ensures.value (sym c.requires.planned))
+    (windows_told c.args.version s c.args.self.now c.args.index a.0 rows.windows a.1)
 
 pub returns : goal.returns
 returns c = λ a at.
@@ -24,5 +24,5 @@ returns c = λ a at.
     let b = told c.args.version s a in
     let here = told_ticket c.ticket_at-ticket.result a c.args.version c.args.state s (c.ticket_at-ticket.ensures a at) c.requires.told in
     view_of _ _ (set c.args.self.now c.args.index b)
-      (row_written ticket_of _ _ c.args.self.now c.args.index _ b rows.tickets_are c.as_mut_slice.ensures.value here)
-      (row_written plan_of _ _ c.args.self.now c.args.index _ b rows.plans_are c.as_mut_slice-2.ensures.value (sym c.requires.planned))
+    (row_written ticket_of _ _ c.args.self.now c.args.index _ b rows.tickets_are c.as_mut_slice.ensures.value here)
+    (row_written plan_of _ _ c.args.self.now c.args.index _ b rows.plans_are c.as_mut_slice-2.ensures.value (sym c.requires.planned))

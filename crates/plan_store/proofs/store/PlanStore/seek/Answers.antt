@@ -1,5 +1,5 @@
 use Rattle.std.proofs.Common.{◌≡◌, sym, ◌∙◌, ap}
-use Rattle.plan_store.proofs.StoreLemmas.{rows_of, step_at, step_nowhere, some_of}
+use Rattle.plan_store.proofs.StoreLemmas.{rows_of, step_at, step_nowhere, step_of_ticket}
 use Rattle.plan_store.proofs.store.PlanStore.seek.Goals as goal
 
 pub unreachable-requires : goal.unreachable-requires
@@ -7,7 +7,7 @@ unreachable-requires c =
     let rows = rows_of _ _ _ c.self.invariant c.self.view_is in
     let seen = c.deref.ensures.0 in
     let none = step_nowhere c.args.step c.args.self.now cc in
-    let some = some_of _ c.requires in
+    let some = step_of_ticket c.args.step c.args.self.now c.requires in
     let there = some.1 in
     cc
 
