@@ -1,6 +1,6 @@
 -- Filters of lists, and lists that are changed at one place.
-use Rattle.std.proofs.Common.{◌≡◌, ◌≤◌, ◌<◌, ◌+◌, ℕ, zero, suc, Bool, true, false, not, cond, List, [], ◌∷◌, ◌++◌, Option, Some, None, length, map, filter, nat_lt, set, take, drop, refl, sym, ◌∙◌, ap, arith}
-use Rattle.std.specs.List.{list_all, slice_get, remove, position, position_or_len, count_by, find}
+use Rattle.std.proofs.Common.{◌≡◌, ◌≤◌, ◌<◌, ◌+◌, ℕ, zero, suc, Bool, true, false, not, cond, List, [], ◌∷◌, Some, None, length, map, filter, nat_lt, refl, sym, ◌∙◌, ap, arith}
+use Rattle.std.specs.List.{list_all, slice_get, position, position_or_len, count_by, find}
 use Rattle.std.proofs.lemmas.Bool.{and_parts, cond-true, cond-false, cond_both, ltb-true, ltb-false}
 use Rattle.std.proofs.lemmas.List.{length-map}
 use Rattle.std.proofs.lemmas.List.Sums.{length-filter}

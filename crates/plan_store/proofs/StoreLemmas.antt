@@ -1,5 +1,5 @@
 -- What the two rows of the store say of the steps ahead.
-use Rattle.std.proofs.Common.{◌≡◌, ◌≤◌, ◌<◌, ◌==◌, ℕ, suc, Bool, true, false, List, [], ◌∷◌, ◌++◌, Option, Some, None, length, map, filter, nat_eq, nat_le, set, get_or, take, drop, refl, sym, ◌∙◌, ap, subst, inl, inr, arith}
+use Rattle.std.proofs.Common.{◌≡◌, ◌≤◌, ◌<◌, ◌==◌, ℕ, suc, true, false, List, ◌∷◌, ◌++◌, Option, Some, None, length, map, filter, nat_le, set, get_or, take, drop, refl, sym, ◌∙◌, ap, subst, inl, inr, arith}
 use Rattle.std.specs.List.{slice_get, position, count_by, insert, remove, refill}
 use Rattle.std.specs.Option.{is_some, option_map, IsSomeAnd}
 use Rattle.std.proofs.lemmas.Bool.{true≢false, eq-eqb}

@@ -19,7 +19,11 @@ fn a_plan_is_kept_and_taken(rt: HostRuntime) -> Result<(), Fail> {
     let mut store = PlanStore::new();
     two_steps(&rt, &mut store);
     expect(&rt, keep(&mut store, made(rt.alloc(), 20, 0)?), true);
-    expect(&rt, listed(rt.alloc(), &store)?.as_str(), "10.0.1H 20.1.0K ");
+    expect(
+        &rt,
+        listed(rt.alloc(), &store)?.as_str(),
+        "10.0.1H 20.1.0K ",
+    );
     expect(&rt, take(&mut store, 20), Some(HOLE.count() as usize));
     expect(&rt, listed(rt.alloc(), &store)?.as_str(), "10.0.1H ");
     expect(&rt, take(&mut store, 20), None);
@@ -36,7 +40,11 @@ fn a_plan_that_may_not_be_kept(rt: HostRuntime) -> Result<(), Fail> {
     expect(&rt, keep(&mut store, made(rt.alloc(), 30, 0)?), false);
     expect(&rt, keep(&mut store, made(rt.alloc(), 10, 1)?), true);
     expect(&rt, keep(&mut store, made(rt.alloc(), 10, 1)?), false);
-    expect(&rt, listed(rt.alloc(), &store)?.as_str(), "10.0.1K 20.1.0H ");
+    expect(
+        &rt,
+        listed(rt.alloc(), &store)?.as_str(),
+        "10.0.1K 20.1.0H ",
+    );
     Ok(())
 }
 
@@ -48,7 +56,11 @@ fn a_renewal_drops_the_plan_of_its_step_alone(rt: HostRuntime) -> Result<(), Fai
     expect(&rt, keep(&mut store, made(rt.alloc(), 20, 0)?), true);
     expect(&rt, renew(&mut store, 10, 2), true);
     expect(&rt, renew(&mut store, 30, 2), false);
-    expect(&rt, listed(rt.alloc(), &store)?.as_str(), "10.0.2W 20.1.0K ");
+    expect(
+        &rt,
+        listed(rt.alloc(), &store)?.as_str(),
+        "10.0.2W 20.1.0K ",
+    );
     expect(&rt, keep(&mut store, made(rt.alloc(), 10, 1)?), false);
     expect(&rt, take(&mut store, 10), Some(0));
     expect(&rt, take(&mut store, 20), Some(6));

@@ -8,7 +8,12 @@ use std::process::Abort;
 use std::test::Fail;
 
 // Stops unless the store shows these tickets.
-fn expect_listed(rt: &impl Abort, alloc: Global, store: &PlanStore, text: &str) -> Result<(), Fail> {
+fn expect_listed(
+    rt: &impl Abort,
+    alloc: Global,
+    store: &PlanStore,
+    text: &str,
+) -> Result<(), Fail> {
     let shown = listed(alloc, store)?;
     expect(rt, shown.as_str(), text);
     Ok(())
@@ -24,7 +29,12 @@ fn by_channel_and_in_the_order_of_placing(rt: HostRuntime) -> Result<(), Fail> {
     expect(&rt, place(&mut store, 8, 3, 0), true);
     expect(&rt, place(&mut store, 4, 0, 0), true);
     expect(&rt, place(&mut store, 50, 1, 1), true);
-    expect_listed(&rt, rt.alloc(), &store, "9.0.2W 4.0.0W 50.1.1W 30.3.0W 8.3.0W 31.7.0W ")
+    expect_listed(
+        &rt,
+        rt.alloc(),
+        &store,
+        "9.0.2W 4.0.0W 50.1.1W 30.3.0W 8.3.0W 31.7.0W ",
+    )
 }
 
 #[test]

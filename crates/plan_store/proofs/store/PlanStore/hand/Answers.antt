@@ -1,4 +1,4 @@
-use Rattle.std.proofs.Common.{◌≡◌, ℕ, Option, Some, None, set, sym, ◌∙◌, ap, refl}
+use Rattle.std.proofs.Common.{◌≡◌, Option, Some, None, set, sym, ◌∙◌, ap, refl}
 use Rattle.plan_store.proofs.StoreLemmas.{rows_of, some_at, waiting_at, waiting_within, waiting_nowhere}
 use Rattle.std.specs.Option.{option_map}
 use Rattle.std.proofs.lemmas.Bool.{eq-eqb}

@@ -1,4 +1,4 @@
-use Rattle.std.proofs.Common.{◌≡◌, ℕ, set, sym, ◌∙◌, ap}
+use Rattle.std.proofs.Common.{ℕ, set, sym, ◌∙◌, ap}
 use Rattle.plan_store.proofs.StoreLemmas.{step_and, step_found}
 use Rattle.plan_store.specs.Stage.{Held}
 use Rattle.plan_store.specs.StepAhead.{told, with_plan}

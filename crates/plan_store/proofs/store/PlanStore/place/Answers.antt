@@ -1,4 +1,4 @@
-use Rattle.std.proofs.Common.{◌≡◌, ◌≤◌, ◌<◌, length, sym, ◌∙◌, ap, subst, arith}
+use Rattle.std.proofs.Common.{◌≡◌, length, ◌∙◌, ap, arith}
 use Rattle.plan_store.proofs.StoreLemmas.{rows_of, end_of, end_within, row_inserted, none_counted}
 use Rattle.std.proofs.lemmas.List.{length-map}
 use Rattle.plan_store.specs.StepAhead.{placed, up_to, ticket_of, plan_of}

@@ -1,6 +1,6 @@
-use Rattle.std.proofs.Common.{◌≡◌, set, sym, ◌∙◌, ap}
+use Rattle.std.proofs.Common.{set, sym}
 use Rattle.plan_store.proofs.StoreLemmas.{rows_of, row_written, some_at, windows_told, told_ticket}
-use Rattle.plan_store.specs.StepAhead.{StepAhead, told, ticket_of, plan_of}
+use Rattle.plan_store.specs.StepAhead.{told, ticket_of, plan_of}
 use Rattle.plan_store.specs.Stage.{stage_of}
 use Rattle.plan_store.proofs.StepLemmas.{view_of, holds_of}
 use Rattle.plan_store.proofs.store.PlanStore.put.Goals as goal

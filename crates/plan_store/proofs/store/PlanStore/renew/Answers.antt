@@ -1,4 +1,4 @@
-use Rattle.std.proofs.Common.{◌≡◌, sym, ◌∙◌, ap}
+use Rattle.std.proofs.Common.{◌∙◌}
 use Rattle.plan_store.proofs.StoreLemmas.{step_of_ticket, step_found}
 use Rattle.plan_store.specs.Stage.{Wanted}
 use Rattle.plan_store.specs.StepAhead.{told}

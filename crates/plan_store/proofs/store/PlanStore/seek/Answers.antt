@@ -1,4 +1,3 @@
-use Rattle.std.proofs.Common.{◌≡◌, sym, ◌∙◌, ap}
 use Rattle.plan_store.proofs.StoreLemmas.{rows_of, step_at, step_nowhere, step_of_ticket}
 use Rattle.plan_store.proofs.store.PlanStore.seek.Goals as goal
 

@@ -1,4 +1,4 @@
-use Rattle.std.proofs.Common.{◌≡◌, ℕ, List, Option, map, option_and_then, sym, ◌∙◌, ap}
+use Rattle.std.proofs.Common.{List, Option, map, option_and_then, sym, ◌∙◌, ap}
 use Rattle.std.specs.List.{remove}
 use Rattle.path_blocks.specs.declared.def.Def.{Def}
 use Rattle.plan_store.specs.declared.ticket.Ticket.{Ticket}

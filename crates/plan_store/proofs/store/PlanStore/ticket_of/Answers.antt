@@ -1,7 +1,7 @@
-use Rattle.std.proofs.Common.{◌≡◌, Option, Some, None, sym, ◌∙◌, ap}
+use Rattle.std.proofs.Common.{◌≡◌, Some, None, sym, ◌∙◌, ap}
 use Rattle.plan_store.proofs.StoreLemmas.{rows_of, step_at, step_within, step_nowhere, some_at}
 use Rattle.std.specs.Option.{option_map}
-use Rattle.plan_store.specs.StepAhead.{StepAhead, ticket_of, step_in}
+use Rattle.plan_store.specs.StepAhead.{ticket_of, step_in}
 use Rattle.plan_store.proofs.store.PlanStore.ticket_of.Goals as goal
 
 pub returns-in_err-index : goal.returns-in_err-index
