@@ -2,3 +2,4 @@ pub mod ListLemmas
 pub mod StepLemmas
 pub mod WindowLemmas
 pub mod StoreLemmas
+pub mod ChannelLemmas

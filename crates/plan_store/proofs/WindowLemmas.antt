@@ -37,7 +37,7 @@ windows_changed n f s c xs w =
     xs
     w
 
-windows_filter : (q : StepAhead → Bool) (xs : List StepAhead) → AreWindows xs → AreWindows (filter q xs)
+pub windows_filter : (q : StepAhead → Bool) (xs : List StepAhead) → AreWindows xs → AreWindows (filter q xs)
 windows_filter q xs w = record {
   channels = list_all-filter (λ a. nat_lt a.channel WINDOW_CHANNELS) q xs w.channels;
   in_order = λ k.

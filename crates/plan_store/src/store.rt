@@ -1,6 +1,7 @@
 //! The store of tickets and plans.
 
 ghost use Rattle.std.specs.Prelude.{◌≡◌, ◌<◌, ◌≤◌, [], length, map, find, false, IsNone, IsSome, IsSomeAnd, IfSome, slice_get, slice_set, option_and_then};
+ghost use Rattle.std.specs.List.{flat_map, range_with_len};
 ghost use Rattle.std.specs.Option.{option_map, ForSome};
 ghost use Rattle.plan_store.specs.declared.limits.TheConstants.{WINDOW_CHANNELS, MAX_WINDOW};
 
@@ -51,6 +52,7 @@ impl PlanStore {
     pub fn tickets(&self) -> &[Ticket]
         ensures exact { result.now ≡ map ticket_of self.now }
         ensures windows { AreWindows self.now }
+        ensures by_channel { flat_map (window self.now) (range_with_len 0 WINDOW_CHANNELS) ≡ self.now }
     {
         self.tickets.as_slice()
     }
