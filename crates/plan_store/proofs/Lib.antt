@@ -1,0 +1,5 @@
+pub mod ListLemmas
+pub mod StepLemmas
+pub mod WindowLemmas
+pub mod StoreLemmas
+pub mod ChannelLemmas

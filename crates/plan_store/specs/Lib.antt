@@ -1,0 +1,4 @@
+pub mod Stage
+pub mod StepAhead
+pub mod Windows
+pub mod Holds
