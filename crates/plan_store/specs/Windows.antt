@@ -1,7 +1,6 @@
 -- The windows of steps ahead: how the steps stand, and how many there are at most.
-use Rattle.std.specs.Prelude.{◌≡◌, ◌≤◌, ◌++◌, ℕ, List, length, filter, true}
+use Rattle.std.specs.Prelude.{◌≡◌, ◌≤◌, ◌++◌, ℕ, nat_lt, List, length, filter, true}
 use Rattle.std.specs.List.{list_all}
-use Rattle.std.specs.Prelude.{nat_lt}
 use Rattle.plan_store.specs.declared.limits.TheConstants.{WINDOW_CHANNELS, MAX_WINDOW}
 use Rattle.plan_store.specs.StepAhead.{StepAhead, is_step, window, up_to, behind}
 

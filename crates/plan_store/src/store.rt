@@ -1,6 +1,6 @@
 //! The store of tickets and plans.
 
-ghost use Rattle.std.specs.Prelude.{◌≡◌, ◌<◌, ◌≤◌, [], length, map, find, false, IsNone, IsSome, IsSomeAnd, IfSome, slice_get, slice_set, option_and_then};
+ghost use Rattle.std.specs.Prelude.{◌≡◌, ◌<◌, ◌≤◌, [], length, map, false, IsNone, IsSome, IsSomeAnd, slice_get, slice_set};
 ghost use Rattle.std.specs.List.{flat_map, range_with_len};
 ghost use Rattle.std.specs.Option.{option_map, ForSome};
 ghost use Rattle.plan_store.specs.declared.limits.TheConstants.{WINDOW_CHANNELS, MAX_WINDOW};
