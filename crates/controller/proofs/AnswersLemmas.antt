@@ -26,7 +26,7 @@ use Rattle.controller.specs.declared.status.Status.{Status}
 use Rattle.controller.specs.declared.status.Status.TheVariants as statuses
 use Rattle.controller.specs.declared.status.ScriptReason.{ScriptReason}
 use Rattle.controller.specs.declared.status.ScriptReason.TheVariants as refusals
-use Rattle.controller.specs.Words.{IsReplay, IsBig, NamesProject, is_hyphen}
+use Rattle.controller.specs.Words.{IsReplay, NamesProject, is_hyphen}
 use Rattle.controller.specs.Meaning.{Meaning, Replay, Path, Big, Help, Version, Bad, Mean}
 use Rattle.controller.specs.Texts.{bad_words_line, help_text, version_text}
 use Rattle.controller.specs.Refusal.{refusal_line, script_line}

@@ -1,7 +1,6 @@
 -- The counts of a log, and the line that says them, after this profile.
 use Rattle.std.specs.Prelude.{ℕ, Bool, true, false, List, [], ◌∷◌, length, codes, decimal}
 use Rattle.std.specs.List.{count_by}
-use Rattle.nc_base.specs.declared.verdict.Verdict.{Verdict}
 use Rattle.nc_base.specs.declared.verdict.Verdict.TheVariants.{Accepted, Refused}
 use Rattle.run_log.specs.declared.entry.Entry.{Entry}
 use Rattle.run_log.specs.declared.entry.Entry.TheVariants.{Block, Edit}

@@ -1,5 +1,5 @@
 use Rattle.std.proofs.lemmas.Result.{err_from_is_err_and}
-use Rattle.controller.proofs.CommandLemmas.{big_1, big_2, big_3, is_big, big_stops_1, big_stops_2, big_stops_3}
+use Rattle.controller.proofs.CommandLemmas.{big_stops_1, big_stops_2, big_stops_3}
 use Rattle.controller.proofs.command.big_of.Goals as goal
 
 pub returns-in_err-steps : goal.returns-in_err-steps
