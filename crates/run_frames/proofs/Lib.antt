@@ -2,8 +2,9 @@ pub mod RenamingLemmas
 pub mod RenamedPartLemmas
 pub mod KeepLemmas
 pub mod PlacedLemmas
-pub mod CountLemmas
 pub mod WriteLemmas
+pub mod CellLemmas
+pub mod RoomLemmas
 pub mod NumberLemmas
 pub mod NumberedLemmas
 pub mod OrderLemmas

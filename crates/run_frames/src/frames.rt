@@ -1,6 +1,6 @@
 //! The frames of a run.
 
-ghost use Rattle.std.specs.Prelude.{◌≡◌, ◌≢◌, ◌<◌, ◌≤◌, ◌+◌, ◌*◌, ◌∷◌, ◌++◌, [], ℕ, List, Some, true, false, IfOk, IfSome, find, length, option_map, slice_get};
+ghost use Rattle.std.specs.Prelude.{◌≡◌, ◌≢◌, ◌<◌, ◌≤◌, ◌+◌, ◌*◌, ◌∷◌, ◌++◌, [], ℕ, List, Some, true, false, IfOk, IfSome, find, length, option_map, slice_get, slice_index};
 ghost use Rattle.std.specs.List.{list_all};
 ghost use Rattle.exec_tree.specs.Exec.{has};
 ghost use Rattle.exec_tree.specs.Built.{channel_in, role_in};
@@ -19,18 +19,18 @@ ghost use Rattle.run_log.specs.declared.entry.Entry.{Entry};
 ghost use Rattle.frame_law.specs.ComeTo.{nesting, new_in};
 ghost use Rattle.frame_law.specs.Looks.{AreNumbered};
 ghost use Rattle.tree_table.specs.Placed.{number_at};
-ghost use Rattle.run_frames.specs.Deeds.{deed_offer};
-ghost use Rattle.run_frames.specs.Entered.{AreUnpickedIn};
-ghost use Rattle.run_frames.specs.Frames.{told};
+ghost use Rattle.run_frames.specs.Deeds.{IsDeed};
+ghost use Rattle.run_frames.specs.Frames.{cells_of};
+ghost use Rattle.run_frames.specs.Told.{room_in};
 ghost use Rattle.run_frames.specs.OfferAt.{offer_at};
-ghost use Rattle.run_frames.specs.Standing.{IsAt, IsPlace, IsNextOf};
+ghost use Rattle.run_frames.specs.Standing.{IsAt, IsPlace};
 ghost use Rattle.place_classes.specs.Classes.{IsClass, class_at};
 ghost use Rattle.run_frames.specs.Ready.{IsSorted, AreClasses, is_empty, is_ready, waits_by, opens, class_in, classes_when, classes_after};
 ghost use Rattle.exec_tree.specs.declared.role.Role.TheVariants as role;
 
+use crate::cells::Cells;
 use crate::deed::Deed;
 use crate::entering::enter_tree;
-use crate::frame::{Frame, frame_at, picked_by};
 use crate::moving::move_at;
 use crate::nodes::number_at;
 use crate::waits::Waits;
@@ -45,49 +45,37 @@ use tree_table::Table;
 
 /// Where a run stands in its tree: of each node to which it has come what that has in its present turn, and all nodes where it can go on,
 /// with the table of the tree, which tells where a node leads and where the run goes on from it. What frames stand for is told by `IsAt`.
-/// The picks of the run are made in order.
 #[derive(Drop)]
 pub struct Frames {
-    frames: Vec<Frame>,
+    frames: Cells,
     table: Table,
     set: Sorted,
     waits: Waits,
 }
 
-/// What a node of this kind does next, with so many elements, by its frame. A workplan or a parallel does nothing itself.
-fn deed_at(kind: Kind, frame: Frame, count: u32) -> Deed
+/// What the node of this kind at a place does next, with so many elements. A workplan or a parallel does nothing itself.
+fn deed_at(kind: Kind, cells: &Cells, place: u32, count: u32) -> Deed
     requires no_plan { kind ≢ kinds.Plan }
     requires no_parallel { kind ≢ kinds.Par }
-    ensures { deed_offer result ≡ offer_at kind (told frame) count }
+    requires room { slice_index cells.now.rooms place ≡ room_in kind count }
+    ensures { IsDeed (offer_at kind (cells_of cells.now.cells place) count) result }
 {
     match kind {
-        Kind::Work => match frame {
-            Frame::Cuts(k) => Deed::Cuts(k),
-            _ => Deed::Starts,
+        Kind::Work => match cells.stage(place) {
+            Some(k) => Deed::Cuts(k),
+            None => Deed::Starts,
         },
         Kind::NonSeq => Deed::Picks {
             count,
-            picked: picked_by(frame),
+            next: cells.next(place),
         },
-        Kind::Sel => Deed::Picks { count, picked: 0 },
+        Kind::Sel => Deed::Picks { count, next: 0 },
         Kind::If | Kind::While => Deed::Tests,
         Kind::Assign => Deed::Assigns,
         Kind::Set => Deed::Sets,
         Kind::Wait => Deed::Passes,
         _ => Deed::Notes,
     }
-}
-
-/// A frame for each of so many nodes, none with picks.
-fn blank(alloc: Global, count: usize) -> Result<Vec<Frame>, NoMemory>
-    ensures long { IfOk result (λ frames. length frames.items ≡ count) }
-    ensures unpicked { IfOk result (λ frames. (arena : List BareNode) → length arena ≡ count → AreUnpickedIn arena frames.items) }
-{
-    let mut frames = Vec::with_capacity(alloc, count)?;
-    for _i in 0..count {
-        frames.push(Frame::PickedFirst(0))?;
-    }
-    Ok(frames)
 }
 
 impl Frames {
@@ -105,10 +93,10 @@ impl Frames {
     {
         let arena = tree.nodes();
         let table = Table::new(alloc, tree)?;
-        let mut frames = blank(alloc, arena.len())?;
+        let mut frames = Cells::new(alloc, arena)?;
         let mut set = Sorted::new(alloc, first_classes(alloc, tree)?)?;
         let waits = Waits::new(alloc, tree)?;
-        enter_tree(tree, &table, frames.as_mut_slice(), &mut set, steps);
+        enter_tree(tree, &table, &mut frames, &mut set, steps);
         Ok(Frames {
             frames,
             table,
@@ -121,18 +109,13 @@ impl Frames {
     pub fn deed(&self, tree: &Tree, node: &Node, place: u32) -> Deed
         requires node { slice_get tree.now.nodes place ≡ Some (bare_of node.now) }
         requires at { (t : List Entry) × IsAt tree.now.nodes self.now t × IsPlace tree.now.nodes place × (has (next (tree_in tree.now) t) (number_at tree.now.nodes place) ≡ true) }
-        ensures { (t : List Entry) → IsAt tree.now.nodes self.now t → has (next (tree_in tree.now) t) (number_at tree.now.nodes place) ≡ true → deed_offer result ≡ offer (tree_in tree.now) t (number_at tree.now.nodes place) }
+        ensures { (t : List Entry) → IsAt tree.now.nodes self.now t → has (next (tree_in tree.now) t) (number_at tree.now.nodes place) ≡ true → IsDeed (offer (tree_in tree.now) t (number_at tree.now.nodes place)) result }
     {
         tree.nodes();
-        deed_at(
-            node.kind.kind(),
-            frame_at(&self.frames, place),
-            node.elements.len(),
-        )
+        deed_at(node.kind.kind(), &self.frames, place, node.elements.len())
     }
 
-    /// Moves the frames by an entry of the node at a place, with which the run is still a run so far. A pick takes the least index that is
-    /// left. It takes no memory. Each look at a node counts one step: where each element of the tree has a number, at most three more than the
+    /// Moves the frames by an entry of the node at a place, with which the run is still a run so far. It takes no memory. Each look at a node counts one step: where each element of the tree has a number, at most three more than the
     /// tree's greatest nesting and twice the number of nodes that are new by the entry.
     pub fn advance<L: Ledger>(
         &mut self,
@@ -142,7 +125,7 @@ impl Frames {
         steps: &mut Steps<L>,
     )
         requires place { IfSome (number_of entry.now) (λ n. place_from 0 tree.now.nodes n ≡ Some place) }
-        requires at { (t : List Entry) × IsAt tree.now.nodes self.old t × Part (tree_in tree.now) (t ++ entry.now ∷ []) × IsNextOf (tree_in tree.now) t entry.now }
+        requires at { (t : List Entry) × IsAt tree.now.nodes self.old t × Part (tree_in tree.now) (t ++ entry.now ∷ []) }
         ensures at { (t : List Entry) → IsAt tree.now.nodes self.old t → Part (tree_in tree.now) (t ++ entry.now ∷ []) → IsAt tree.now.nodes self.new (t ++ entry.now ∷ []) }
         ensures sorted { (t : List Entry) (released : List ℕ) → IsAt tree.now.nodes self.old t → Part (tree_in tree.now) (t ++ entry.now ∷ []) → IsSorted tree.now self.old t released → IsSorted tree.now self.new (t ++ entry.now ∷ []) released }
         ensures looks { (t : List Entry) → IsAt tree.now.nodes self.old t → Part (tree_in tree.now) (t ++ entry.now ∷ []) → AreNumbered (tree_in tree.now) → steps.new ≤ steps.old + (3 + nesting (tree_in tree.now) + 2 * length (new_in (tree_in tree.now) t entry.now)) }
@@ -151,7 +134,7 @@ impl Frames {
         move_at(
             tree,
             &self.table,
-            self.frames.as_mut_slice(),
+            &mut self.frames,
             &mut self.set,
             place,
             entry,
