@@ -23,4 +23,5 @@ pub mod LookLemmas
 pub mod StandLemmas
 pub mod RenamedLookLemmas
 pub mod ReadyLemmas
+pub mod MayLemmas
 pub mod WaitLemmas

@@ -22,6 +22,12 @@ may_by role.Cutting open_now idle released = open_now || idle
 may_by (role.Waiting mark) open_now idle released = has released mark
 may_by role.Free open_now idle released = true
 
+-- a place of this class may go on in its channel, which is idle or not
+abbrev pub may_in : Class → Bool → Bool
+may_in (Free channel) idle = true
+may_in (Idle channel) idle = idle
+may_in Shut idle = false
+
 -- node n is of this channel, which is idle or not, and may go on
 abbrev pub is_ready : TreeValue → List Entry → List ℕ → ℕ → Bool → ℕ → Bool
 is_ready tree t released channel idle n = (channel_in tree.nodes n == channel) && may_by (role_in tree n) (is_open n t) idle released

@@ -1,6 +1,6 @@
 //! The frames of a run.
 
-ghost use Rattle.std.specs.Prelude.{◌≡◌, ◌≢◌, ◌<◌, ◌≤◌, ◌+◌, ◌*◌, ◌∷◌, ◌++◌, [], ℕ, List, Some, true, false, IfOk, IfSome, find, length, option_map, slice_get, slice_index};
+ghost use Rattle.std.specs.Prelude.{◌≡◌, ◌≢◌, ◌<◌, ◌≤◌, ◌+◌, ◌*◌, ◌∷◌, ◌++◌, [], ◌↔◌, ℕ, List, Some, true, false, IfOk, IfSome, IsTrue, find, length, option_map, slice_get, slice_index};
 ghost use Rattle.std.specs.List.{list_all};
 ghost use Rattle.exec_tree.specs.Exec.{has};
 ghost use Rattle.exec_tree.specs.Built.{channel_in, role_in};
@@ -13,9 +13,10 @@ ghost use Rattle.exec_tree.specs.declared.node.BareNode.{BareNode};
 ghost use Rattle.trace_law.specs.Below.{tree_in};
 ghost use Rattle.trace_law.specs.Of.{number_of};
 ghost use Rattle.trace_law.specs.Next.{next};
-ghost use Rattle.trace_law.specs.Offer.{offer};
+ghost use Rattle.trace_law.specs.Offer.{IsOffered, offer};
 ghost use Rattle.trace_law.specs.Part.{Part};
 ghost use Rattle.run_log.specs.declared.entry.Entry.{Entry};
+ghost use Rattle.run_log.specs.declared.entry.Entry.TheVariants.{Pick};
 ghost use Rattle.frame_law.specs.ComeTo.{nesting, new_in};
 ghost use Rattle.frame_law.specs.Looks.{AreNumbered};
 ghost use Rattle.tree_table.specs.Placed.{number_at};
@@ -25,7 +26,7 @@ ghost use Rattle.run_frames.specs.Told.{room_in};
 ghost use Rattle.run_frames.specs.OfferAt.{offer_at};
 ghost use Rattle.run_frames.specs.Standing.{IsAt, IsPlace};
 ghost use Rattle.place_classes.specs.Classes.{IsClass, class_at};
-ghost use Rattle.run_frames.specs.Ready.{IsSorted, AreClasses, is_empty, is_ready, waits_by, opens, class_in, classes_when, classes_after};
+ghost use Rattle.run_frames.specs.Ready.{IsSorted, AreClasses, is_empty, is_ready, may_in, waits_by, opens, class_in, classes_when, classes_after};
 ghost use Rattle.exec_tree.specs.declared.role.Role.TheVariants as role;
 
 use crate::cells::Cells;
@@ -78,6 +79,28 @@ fn deed_at(kind: Kind, cells: &Cells, place: u32, count: u32) -> Deed
     }
 }
 
+/// Whether the node of this kind at a place, with so many elements, may pick the one at an index next.
+fn may_pick_at(kind: Kind, cells: &Cells, place: u32, count: u32, index: u32) -> bool
+    ensures { (n : ℕ) → IsTrue result ↔ IsOffered (offer_at kind (cells_of cells.now.cells place) count) n (Pick n index) }
+{
+    match kind {
+        Kind::NonSeq => index < count && !cells.has(place, index),
+        Kind::Sel => index < count,
+        _ => false,
+    }
+}
+
+/// Whether a node of this class may go on in its channel, which is idle or not.
+fn may_in(class: Class, idle: bool) -> bool
+    ensures { result ≡ may_in class idle }
+{
+    match class {
+        Class::Free(_) => true,
+        Class::Idle(_) => idle,
+        Class::Shut => false,
+    }
+}
+
 impl Frames {
     /// The frames of a run that has no entry yet. Once the table is made, each look at a node counts one step.
     ///
@@ -113,6 +136,46 @@ impl Frames {
     {
         tree.nodes();
         deed_at(node.kind.kind(), &self.frames, place, node.elements.len())
+    }
+
+    /// Whether the node at a place where the run can go on may pick the element at an index next: it picks, and that one is left. The caller has
+    /// looked at the node.
+    pub fn may_pick(&self, tree: &Tree, node: &Node, place: u32, index: u32) -> bool
+        requires node { slice_get tree.now.nodes place ≡ Some (bare_of node.now) }
+        requires at { (t : List Entry) × IsAt tree.now.nodes self.now t × IsPlace tree.now.nodes place × (has (next (tree_in tree.now) t) (number_at tree.now.nodes place) ≡ true) }
+        ensures { (t : List Entry) → IsAt tree.now.nodes self.now t → has (next (tree_in tree.now) t) (number_at tree.now.nodes place) ≡ true → IsTrue result ↔ IsOffered (offer (tree_in tree.now) t (number_at tree.now.nodes place)) (number_at tree.now.nodes place) (Pick (number_at tree.now.nodes place) index) }
+    {
+        tree.nodes();
+        may_pick_at(
+            node.kind.kind(),
+            &self.frames,
+            place,
+            node.elements.len(),
+            index,
+        )
+    }
+
+    /// Whether the run can go on at the node at a place.
+    pub fn goes_on(&self, tree: &Tree, place: u32) -> bool
+        requires place { IsPlace tree.now.nodes place }
+        requires at { (t : List Entry) × IsAt tree.now.nodes self.now t }
+        ensures { (t : List Entry) → IsAt tree.now.nodes self.now t → result ≡ has (next (tree_in tree.now) t) (number_at tree.now.nodes place) }
+    {
+        tree.nodes();
+        places_are_found();
+        self.set.contains(place)
+    }
+
+    /// Whether the node at a place may go on in its channel, which is idle or not, where the run can go on there: a step that is open, or any
+    /// where the channel is idle, a wait whose mark was released, any other node. With `goes_on` it is what `ready` looks for.
+    pub fn may_go_on(&self, tree: &Tree, place: u32, idle: bool) -> bool
+        requires place { IsPlace tree.now.nodes place }
+        requires channel { channel_in tree.now.nodes (number_at tree.now.nodes place) < MAX_CHANNELS }
+        requires at { (t : List Entry) × (released : List ℕ) × IsAt tree.now.nodes self.now t × IsSorted tree.now self.now t released }
+        ensures { (t : List Entry) (released : List ℕ) → IsAt tree.now.nodes self.now t → IsSorted tree.now self.now t released → result ≡ is_ready tree.now t released (channel_in tree.now.nodes (number_at tree.now.nodes place)) idle (number_at tree.now.nodes place) }
+    {
+        places_are_found();
+        may_in(self.set.class_of(place), idle)
     }
 
     /// Moves the frames by an entry of the node at a place, with which the run is still a run so far. It takes no memory. Each look at a node counts one step: where each element of the tree has a number, at most three more than the
