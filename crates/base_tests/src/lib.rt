@@ -1,4 +1,4 @@
-//! Tests of the crates that all others stand on: nc_base, nc_outside, path_blocks, run_schedule and place_set.
+//! Tests of the crates that all others stand on: nc_base, nc_outside, path_blocks, run_schedule, place_set and pick_set.
 #![tactic(auto)]
 
 #[cfg(test)]
@@ -11,6 +11,8 @@ mod expected;
 mod outside;
 #[cfg(test)]
 mod paths;
+#[cfg(test)]
+mod picks;
 #[cfg(test)]
 mod places;
 #[cfg(test)]

@@ -1,4 +1,4 @@
-//! Tests of runs: run_core, over projects that are read from text, and what run_law says of runs.
+//! Tests of runs: run_core and run_state, over projects that are read from text, and what run_law says of runs.
 #![tactic(auto)]
 
 #[cfg(test)]

@@ -175,6 +175,14 @@ impl Sorted {
         self.classes[place as usize] = class;
     }
 
+    /// Whether the place is in the set.
+    pub fn contains(&self, place: u32) -> bool
+        requires { place < MAX_PLACES }
+        ensures { result ≡ holds self.now.all place }
+    {
+        self.all.contains(place)
+    }
+
     /// The least place of the set that may go on in a channel, which is idle or not: it is free, or idle where the channel is. None comes exactly
     /// where there is none.
     pub fn first_in_channel(&self, channel: u8, idle: bool) -> Option<u32>

@@ -1,12 +1,1 @@
-pub mod SlotLemmas
-pub mod PlaceLemmas
-pub mod OpeningLemmas
-pub mod QuestionLemmas
-pub mod KindLemmas
-pub mod PickLemmas
-pub mod EditLemmas
-pub mod MadeLemmas
-pub mod FollowLemmas
-pub mod ReadyLemmas
-pub mod StateLemmas
 pub mod CoreLemmas

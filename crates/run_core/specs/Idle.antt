@@ -3,7 +3,7 @@ use Rattle.std.specs.Prelude.{◌≡◌, ℕ, Bool, true, List, None}
 use Rattle.run_log.specs.declared.entry.Entry.{Entry}
 use Rattle.run_law.specs.Rules.{Rules}
 use Rattle.run_law.specs.Replay.{turn}
-use Rattle.run_core.specs.State.{flag_at}
+use Rattle.run_state.specs.State.{flag_at}
 
 -- a turn of each channel that has its flag makes nothing
 abbrev pub AreIdle : Rules → ℕ → List Entry → List Bool → Type 0

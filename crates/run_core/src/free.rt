@@ -10,17 +10,18 @@ ghost use Rattle.project_law.specs.ProjectRules.{rules_of, store_channels, store
 ghost use Rattle.project_law.specs.Legal.{Legal};
 ghost use Rattle.std.specs.Option.{option_to_list};
 ghost use Rattle.run_core.specs.Standings.{standing_of};
-ghost use Rattle.run_core.specs.Core.{starts_next, most_looks, path_use};
+ghost use Rattle.run_state.specs.Actions.{starts_next, most_looks};
+ghost use Rattle.run_core.specs.Core.{path_use};
 ghost use Rattle.run_core.specs.declared.standings.Standing.TheVariants.{Ready, EditDue};
 ghost use Rattle.run_log.specs.declared.entry.Entry.TheVariants.{Edit};
-ghost use Rattle.run_core.specs.Edits.{reached_by};
+ghost use Rattle.run_state.specs.Edits.{reached_by};
 
 use crate::standings::{Standing, standing_by};
-use crate::state::{Action, RunState};
 use edit_rules::Project;
 use entity_types::Script;
 use nc_base::{NoMemory, Number, Steps, Verdict};
 use run_log::{Entry, Log};
+use run_state::{Action, RunState};
 use std::alloc::Global;
 use std::marker::Model;
 use std::sync::ledger::Ledger;
@@ -100,7 +101,7 @@ impl FreeCore {
         standing_by(
             all && self.state.is_over(),
             all && waiting,
-            self.state.log().len() >= self.limit as usize,
+            self.state.len() >= self.limit as usize,
             self.state.is_due(waiting),
         )
     }

@@ -1,7 +1,7 @@
 //! Channels that have nothing to do.
 
 ghost use Rattle.std.specs.Prelude.{◌≡◌, ◌⊎◌, ℕ, true, false};
-ghost use Rattle.run_core.specs.State.{flag_at};
+ghost use Rattle.run_state.specs.State.{flag_at};
 
 use std::marker::Model;
 

@@ -2,22 +2,16 @@
 //! core_tests.
 #![tactic(auto)]
 
-mod definition;
-mod edits;
 mod free;
 mod idle;
-mod marks;
 mod named;
-mod open_steps;
 mod planning;
 mod replaying;
 mod standings;
-mod state;
-mod variables;
 
 pub use free::{Acted, PathUse};
 pub use named::{RunCore, RunName};
 pub use planning::plan_of;
 pub use replaying::replay;
+pub use run_state::Action;
 pub use standings::Standing;
-pub use state::Action;

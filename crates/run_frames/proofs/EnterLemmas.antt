@@ -9,7 +9,7 @@ use Rattle.exec_tree.specs.declared.kind.Kind.TheVariants as kind
 use Rattle.exec_tree.specs.declared.node.BareNode.{BareNode}
 use Rattle.place_set.specs.Words.{holds}
 use Rattle.trace_law.specs.Next.{next, next_each}
-use Rattle.trace_law.specs.Cells.{WhereTrue}
+use Rattle.trace_law.specs.Cells.{Cell, Left, Picked, WhereTrue}
 use Rattle.trace_law.specs.Cells as cells
 use Rattle.trace_law.specs.Frames.{one_where, is_shared, Stands}
 use Rattle.trace_law.specs.Leading.{leads}
@@ -26,9 +26,7 @@ use Rattle.tree_table.proofs.ListLemmas.{drop_at}
 use Rattle.tree_table.proofs.NodeLemmas.{once_behind}
 use Rattle.tree_table.proofs.LeadLemmas.{lead_of}
 use Rattle.tree_table.proofs.OpenLemmas.{entrance_leads, entrance_node, itself_came, parallel_is, each_came, nothing_came}
-use Rattle.run_frames.specs.declared.frame.Frame.{Frame}
-use Rattle.run_frames.specs.declared.frame.Frame.TheVariants.{Left, PickedFirst}
-use Rattle.run_frames.specs.Frames.{told, cells_of, AreKeptBut}
+use Rattle.run_frames.specs.Frames.{cells_of, AreKeptBut}
 use Rattle.run_frames.specs.Fresh.{fresh}
 use Rattle.run_frames.specs.Entered.{AreUnpickedIn, ComeIn, IsEntered, AreEntered}
 use Rattle.run_frames.proofs.KeepLemmas.{AreAlike, alike_cells, stands_each_kept}
@@ -38,10 +36,10 @@ use Rattle.run_frames.proofs.UnpickedLemmas.{unpicked_down, set_unpicked}
 
 -- ---- all kinds but workplans and parallels
 
-own_cell : (old : List Frame) (p : ℕ) (f : Frame) → p < length old → cells_of (slice_set old p f) p ≡ told f
-own_cell old p f l = ap told (frame_set old p f l)
+own_cell : (old : List Cell) (p : ℕ) (f : Cell) → p < length old → cells_of (slice_set old p f) p ≡ f
+own_cell old p f l = frame_set old p f l
 
-fresh_stands : (old : List Frame) (p : ℕ) (k : Kind) (n : Option ℕ) (es : List Exec) → p < length old → (k ≡ kind.Plan → ⊥) → (k ≡ kind.Par → ⊥) → Stands (cells_of (slice_set old p (fresh k))) (of_kind k (place_for k n p) es) []
+fresh_stands : (old : List Cell) (p : ℕ) (k : Kind) (n : Option ℕ) (es : List Exec) → p < length old → (k ≡ kind.Plan → ⊥) → (k ≡ kind.Par → ⊥) → Stands (cells_of (slice_set old p (fresh k))) (of_kind k (place_for k n p) es) []
 fresh_stands old p kind.Plan n es l a b = absurd (a refl)
 fresh_stands old p kind.Par n es l a b = absurd (b refl)
 fresh_stands old p kind.NonSeq n es l a b = (own_cell old p (fresh kind.NonSeq) l, tt)
@@ -54,7 +52,7 @@ fresh_stands old p kind.Set n es l a b = own_cell old p (fresh kind.Set) l
 fresh_stands old p kind.Wait n es l a b = own_cell old p (fresh kind.Wait) l
 fresh_stands old p kind.Note n es l a b = own_cell old p (fresh kind.Note) l
 
-fresh_unpicked : (k : Kind) → k ≡ kind.NonSeq → fresh k ≡ PickedFirst 0
+fresh_unpicked : (k : Kind) → k ≡ kind.NonSeq → fresh k ≡ Picked []
 fresh_unpicked k e = ap fresh e
 
 plan_is : (k : Kind) (n : Option ℕ) (es : List Exec) → k ≡ kind.Plan → is_workplan (of_kind k n es) ≡ true
@@ -67,7 +65,7 @@ no_plan arena rows p node t s at h =
     let none : is_workplan (executable_at arena rows p) ≡ false = ap is_workplan l.1 ∙ (lead_of (executable_at arena rows p) l.0).3 in
     clash (is_workplan (executable_at arena rows p)) (ap is_workplan (entrance_node arena rows p node t s at) ∙ plan_is node.kind _ _ h) none
 
-pub itself_entered : (arena : List BareNode) (rows : List Row) (old : List Frame) (before after : List ℕ) (p : ℕ) (node : BareNode) → IsTable arena rows → IsEntrance arena rows p → slice_get arena p ≡ Some node → (node.kind ≡ kind.Par → ⊥) → p < length old → AreUnpickedIn arena old → ((q : ℕ) → holds after q ≡ ((q == p) || holds before q))
+pub itself_entered : (arena : List BareNode) (rows : List Row) (old : List Cell) (before after : List ℕ) (p : ℕ) (node : BareNode) → IsTable arena rows → IsEntrance arena rows p → slice_get arena p ≡ Some node → (node.kind ≡ kind.Par → ⊥) → p < length old → AreUnpickedIn arena old → ((q : ℕ) → holds after q ≡ ((q == p) || holds before q))
     → IsEntered arena old (slice_set old p (fresh node.kind)) before after (executable_at arena rows p)
 itself_entered arena rows old before after p node t s at par l u put =
     let f = executable_at arena rows p in
@@ -93,7 +91,7 @@ elements_once arena rows p node places t s d at par e =
     let once = subst (λ (f : Exec). AreDistinct (nodes f)) (parallel_is arena rows p node t s at par) (there_once arena rows p t d s.inside) in
     subst (λ (qs : List ℕ). AreDistinct (nodes_all (to_execs (placed_all arena (levels_at rows p - 1) qs))) × (has (nodes_all (to_execs (placed_all arena (levels_at rows p - 1) qs))) p ≡ false)) e (once.1, once.0)
 
-pub parallel_entered : (arena : List BareNode) (rows : List Row) (old mid : List Frame) (before after : List ℕ) (p : ℕ) (node : BareNode) (number : ℕ) → IsTable arena rows → IsEntrance arena rows p → AreDistinct (nodes (placed arena)) → slice_get arena p ≡ Some node → node.kind ≡ kind.Par → p < length old
+pub parallel_entered : (arena : List BareNode) (rows : List Row) (old mid : List Cell) (before after : List ℕ) (p : ℕ) (node : BareNode) (number : ℕ) → IsTable arena rows → IsEntrance arena rows p → AreDistinct (nodes (placed arena)) → slice_get arena p ≡ Some node → node.kind ≡ kind.Par → p < length old
     → AreEntered arena old mid before after (to_execs (placed_all arena (levels_at rows p - 1) node.elements)) number → IsEntered arena old (slice_set mid p (Left number)) before after (executable_at arena rows p)
 parallel_entered arena rows old mid before after p node number t s d at par l o =
     let es = to_execs (placed_all arena (levels_at rows p - 1) node.elements) in
@@ -102,7 +100,7 @@ parallel_entered arena rows old mid before after p node number t s d at par l o 
     let new = slice_set mid p (Left number) in
     let within : p < length mid = subst (λ (n : ℕ). p < n) (sym o.long) l in
     let alike : AreAlike mid new (nodes_all es) = set_alike mid p (Left number) (nodes_all es) once.1 in
-    let no_picks : (k : Kind) → k ≡ kind.Par → k ≡ kind.NonSeq → Left number ≡ PickedFirst 0 = λ k h g. absurd (let w : kind.Par ≡ kind.NonSeq = sym h ∙ g in cc) in
+    let no_picks : (k : Kind) → k ≡ kind.Par → k ≡ kind.NonSeq → Left number ≡ Picked [] = λ k h g. absurd (let w : kind.Par ≡ kind.NonSeq = sym h ∙ g in cc) in
     subst (λ (e : Exec). IsEntered arena old new before after e) (sym is)
     (record {
       stands = (where_shared (is_shared es) _ (own_cell mid p (Left number) within ∙ ap cells.Left o.counted), stands_each_kept (cells_of mid) (cells_of new) es [] (alike_cells mid new (nodes_all es) alike) o.stands);
@@ -130,7 +128,7 @@ one_is : (l : List ℕ) → (l ≡ [] → ⊥) → one_where l ≡ 1
 one_is [] h = absurd (h refl)
 one_is (n ∷ l) h = refl
 
-one_entered : (arena : List BareNode) (old mid new : List Frame) (before middle after : List ℕ) (e : Exec) (es : Execs) (number : ℕ) → AreDistinct (nodes e ++ nodes_all es) → (next e [] ≡ [] → ⊥) → AreUnpicked (cells_of new) e → AreEntered arena old mid before middle es number → IsEntered arena mid new middle after (leads e)
+one_entered : (arena : List BareNode) (old mid new : List Cell) (before middle after : List ℕ) (e : Exec) (es : Execs) (number : ℕ) → AreDistinct (nodes e ++ nodes_all es) → (next e [] ≡ [] → ⊥) → AreUnpicked (cells_of new) e → AreEntered arena old mid before middle es number → IsEntered arena mid new middle after (leads e)
     → ComeIn before after (next_each (Then e es) []) → AreEntered arena old new before after (Then e es) (number + 1)
 one_entered arena old mid new before middle after e es number d some u s o came =
     let kept : AreKeptBut mid new (nodes e) = λ q h. o.kept q (leads_within e q h) in
@@ -145,7 +143,7 @@ one_entered arena old mid new before middle after e es number d some u s o came 
       came = came;
     }
 
-void_entered : (arena : List BareNode) (old mid : List Frame) (before middle : List ℕ) (e : Exec) (es : Execs) (number : ℕ) → next e [] ≡ [] → AreUnpicked (cells_of mid) e → AreEntered arena old mid before middle es number → ComeIn before middle (next_each (Then e es) []) → AreEntered arena old mid before middle (Then e es) number
+void_entered : (arena : List BareNode) (old mid : List Cell) (before middle : List ℕ) (e : Exec) (es : Execs) (number : ℕ) → next e [] ≡ [] → AreUnpicked (cells_of mid) e → AreEntered arena old mid before middle es number → ComeIn before middle (next_each (Then e es) []) → AreEntered arena old mid before middle (Then e es) number
 void_entered arena old mid before middle e es number none u s came =
     let zero_of : one_where (next e []) ≡ 0 = ap one_where none in
     record {
@@ -157,7 +155,7 @@ void_entered arena old mid before middle e es number none u s came =
       came = came;
     }
 
-pub entered_more : (arena : List BareNode) (rows : List Row) (old mid new : List Frame) (before middle after : List ℕ) (levels : ℕ) (places : List ℕ) (k number into : ℕ) → k < length places → AreDistinct (nodes_all (to_execs (placed_all arena levels places))) → AreEntered arena old mid before middle (to_execs (placed_all arena levels (drop (k + 1) places))) number
+pub entered_more : (arena : List BareNode) (rows : List Row) (old mid new : List Cell) (before middle after : List ℕ) (levels : ℕ) (places : List ℕ) (k number into : ℕ) → k < length places → AreDistinct (nodes_all (to_execs (placed_all arena levels places))) → AreEntered arena old mid before middle (to_execs (placed_all arena levels (drop (k + 1) places))) number
     → LeadsTo arena rows (placed_down arena levels (get_or places k 0)) (Some into) → IsEntered arena mid new middle after (executable_at arena rows into) → AreEntered arena old new before after (to_execs (placed_all arena levels (drop k places))) (number + 1)
 entered_more arena rows old mid new before middle after levels places k number into l d s to o =
     let e = placed_down arena levels (get_or places k 0) in
@@ -170,7 +168,7 @@ entered_more arena rows old mid new before middle after levels places k number i
     (one_entered arena old mid new before middle after e (to_execs (placed_all arena levels (drop (k + 1) places))) number once to.0 (unpicked_down arena new levels (get_or places k 0) opened.unpicked) s opened
     (subst (λ (ps : List ℕ). ComeIn before after (next_each (to_execs (placed_all arena levels ps)) [])) split came))
 
-pub entered_same : (arena : List BareNode) (rows : List Row) (old mid : List Frame) (before middle : List ℕ) (levels : ℕ) (places : List ℕ) (k number : ℕ) (into : Option ℕ) → k < length places → AreEntered arena old mid before middle (to_execs (placed_all arena levels (drop (k + 1) places))) number → into ≡ None
+pub entered_same : (arena : List BareNode) (rows : List Row) (old mid : List Cell) (before middle : List ℕ) (levels : ℕ) (places : List ℕ) (k number : ℕ) (into : Option ℕ) → k < length places → AreEntered arena old mid before middle (to_execs (placed_all arena levels (drop (k + 1) places))) number → into ≡ None
     → LeadsTo arena rows (placed_down arena levels (get_or places k 0)) into → AreEntered arena old mid before middle (to_execs (placed_all arena levels (drop k places))) number
 entered_same arena rows old mid before middle levels places k number into l s none to =
     let e = placed_down arena levels (get_or places k 0) in
@@ -184,7 +182,7 @@ entered_same arena rows old mid before middle levels places k number into l s no
 
 -- ---- the whole tree
 
-pub tree_entered : (arena : List BareNode) (rows : List Row) (old new : List Frame) (before after : List ℕ) (into : ℕ) → LeadsTo arena rows (placed arena) (Some into) → IsEntered arena old new before after (executable_at arena rows into) → IsEntered arena old new before after (placed arena)
+pub tree_entered : (arena : List BareNode) (rows : List Row) (old new : List Cell) (before after : List ℕ) (into : ℕ) → LeadsTo arena rows (placed arena) (Some into) → IsEntered arena old new before after (executable_at arena rows into) → IsEntered arena old new before after (placed arena)
 tree_entered arena rows old new before after into to o =
     let e = placed arena in
     let opened = subst (λ (f : Exec). IsEntered arena old new before after f) to.2 o in
@@ -196,7 +194,7 @@ tree_entered arena rows old new before after into to o =
       came = λ q. opened.came q ∙ ap (λ (ns : List ℕ). holds before q || has ns q) (leads_next e);
     }
 
-pub tree_void : (arena : List BareNode) (rows : List Row) (old : List Frame) (before : List ℕ) (into : Option ℕ) → into ≡ None → LeadsTo arena rows (placed arena) into → AreUnpickedIn arena old → IsEntered arena old old before before (placed arena)
+pub tree_void : (arena : List BareNode) (rows : List Row) (old : List Cell) (before : List ℕ) (into : Option ℕ) → into ≡ None → LeadsTo arena rows (placed arena) into → AreUnpickedIn arena old → IsEntered arena old old before before (placed arena)
 tree_void arena rows old before into h to u =
     let e = placed arena in
     let none = subst (λ (o : Option ℕ). LeadsTo arena rows e o) h to in

@@ -7,7 +7,7 @@ use Rattle.exec_tree.specs.Exec.{Exec, Plan, has}
 use Rattle.exec_tree.specs.declared.limits.TheConstants.{MAX_TREE_NESTING}
 use Rattle.exec_tree.specs.declared.node.BareNode.{BareNode}
 use Rattle.place_set.specs.Words.{holds}
-use Rattle.trace_law.specs.Cells.{picked}
+use Rattle.trace_law.specs.Cells.{Cell, Left, picked}
 use Rattle.trace_law.specs.Frames.{left}
 use Rattle.trace_law.specs.Leading.{leads}
 use Rattle.trace_law.proofs.LeadLemmas.{leads_next}
@@ -18,13 +18,10 @@ use Rattle.tree_table.specs.Rows.{link_of, after_at, executable_at, AreLinkedBac
 use Rattle.tree_table.specs.Table.{IsEntrance, count_at}
 use Rattle.tree_table.specs.declared.row.Continuation.TheVariants as row
 use Rattle.tree_table.specs.declared.row.Row.{Row}
-use Rattle.run_frames.specs.declared.frame.Frame.{Frame}
-use Rattle.run_frames.specs.declared.frame.Frame.TheVariants.{Left}
-use Rattle.run_frames.specs.Frames.{told, frame_at, cells_of, picked_by}
+use Rattle.run_frames.specs.Frames.{cells_of}
 use Rattle.run_frames.specs.Entered.{AreUnpickedIn, ComeIn, IsEntered}
 use Rattle.run_frames.specs.Ways.{IsNoPick, IsWay, HasGone, link_bound}
 use Rattle.run_frames.proofs.RenamingLemmas.{same_number}
-use Rattle.run_frames.proofs.CountLemmas.{picked_told, length_upto}
 use Rattle.run_frames.proofs.WriteLemmas.{frame_set, length_set, set_keeps}
 use Rattle.run_frames.proofs.UnpickedLemmas.{unpicked_down, set_unpicked}
 use Rattle.run_frames.proofs.EnterLemmas.{come_none}
@@ -69,7 +66,7 @@ picks_is arena rows p (TestsAgain n) w = absurd (let e : row.PicksOn p ≡ row.T
 
 -- ---- where nothing is left to do, where a while tests again, where elements are opened
 
-pub gone_done : (arena : List BareNode) (rows : List Row) (f : List Frame) (before : List ℕ) (k : Onward) → AreUnpickedIn arena f → IsWay arena rows row.Done k → HasGone arena f f before before k
+pub gone_done : (arena : List BareNode) (rows : List Row) (f : List Cell) (before : List ℕ) (k : Onward) → AreUnpickedIn arena f → IsWay arena rows row.Done k → HasGone arena f f before before k
 gone_done arena rows f before Done u w = record { gone = record { ran = tt; kept = λ q h. refl }; unpicked = u; long = refl; came = come_none before }
 gone_done arena rows f before (Opens es) u w = absurd (let e : row.Done ≡ row.Opens w.told.0 = w.told.1 in cc)
 gone_done arena rows f before (Joins n j) u w = absurd (let e : row.Done ≡ row.Joins n = w.told.0 in cc)
@@ -95,7 +92,7 @@ tests_within arena rows p (Joins n j) w = absurd (let e : row.TestsAgain p ≡ r
 tests_within arena rows p (PicksOn n total j) w = absurd (let e : row.TestsAgain p ≡ row.PicksOn n = w.told.0 in cc)
 tests_within arena rows p (TestsAgain n) w = subst (λ (r : ℕ). r < length arena) (sym (tests_same p n w.told)) w.within
 
-pub gone_tests : (arena : List BareNode) (rows : List Row) (f : List Frame) (before after : List ℕ) (p : ℕ) (k : Onward) → AreUnpickedIn arena f → ((q : ℕ) → holds after q ≡ ((q == p) || holds before q)) → IsWay arena rows (row.TestsAgain p) k → HasGone arena f f before after k
+pub gone_tests : (arena : List BareNode) (rows : List Row) (f : List Cell) (before after : List ℕ) (p : ℕ) (k : Onward) → AreUnpickedIn arena f → ((q : ℕ) → holds after q ≡ ((q == p) || holds before q)) → IsWay arena rows (row.TestsAgain p) k → HasGone arena f f before after k
 gone_tests arena rows f before after p Done u put w = absurd (let e : row.TestsAgain p ≡ row.Done = w.told in cc)
 gone_tests arena rows f before after p (Opens es) u put w = absurd (let e : row.TestsAgain p ≡ row.Opens w.told.0 = w.told.1 in cc)
 gone_tests arena rows f before after p (Joins n j) u put w = absurd (let e : row.TestsAgain p ≡ row.Joins n = w.told.0 in cc)
@@ -114,13 +111,13 @@ opens_entrance arena rows p (Joins n j) w = absurd (let e : row.Opens p ≡ row.
 opens_entrance arena rows p (PicksOn n total j) w = absurd (let e : row.Opens p ≡ row.PicksOn n = w.told.0 in cc)
 opens_entrance arena rows p (TestsAgain n) w = absurd (let e : row.Opens p ≡ row.TestsAgain n = w.told in cc)
 
-pub gone_entered : (arena : List BareNode) (rows : List Row) (old new : List Frame) (before after : List ℕ) (p : ℕ) (k : Onward) → IsEntered arena old new before after (executable_at arena rows p) → IsWay arena rows (row.Opens p) k → HasGone arena old new before after k
+pub gone_entered : (arena : List BareNode) (rows : List Row) (old new : List Cell) (before after : List ℕ) (p : ℕ) (k : Onward) → IsEntered arena old new before after (executable_at arena rows p) → IsWay arena rows (row.Opens p) k → HasGone arena old new before after k
 gone_entered arena rows old new before after p Done o w = absurd (let e : row.Opens p ≡ row.Done = w.told in cc)
 gone_entered arena rows old new before after p (Opens es) o w =
     let is : executable_at arena rows p ≡ leads (Plan None es) = ap (executable_at arena rows) (opens_same p w.told.0 w.told.1) ∙ w.told.3 in
     let opened = subst (λ (f : Exec). IsEntered arena old new before after f) is o in
     record {
-      gone = gone_leads (cells_of old) (cells_of new) es (w.within (cells_of new) (unpicked_down arena new MAX_TREE_NESTING 0 opened.unpicked)) opened.stands (λ q h. ap told (opened.kept q h));
+      gone = gone_leads (cells_of old) (cells_of new) es (w.within (cells_of new) (unpicked_down arena new MAX_TREE_NESTING 0 opened.unpicked)) opened.stands (λ q h. (opened.kept q h));
       unpicked = opened.unpicked;
       long = opened.long;
       came = λ q. opened.came q ∙ ap (λ (ns : List ℕ). holds before q || has ns q) (leads_next (Plan None es));
@@ -131,34 +128,34 @@ gone_entered arena rows old new before after p (TestsAgain n) o w = absurd (let 
 
 -- ---- parallels
 
-own_cell : (old : List Frame) (p : ℕ) (f : Frame) → p < length old → cells_of (slice_set old p f) p ≡ told f
-own_cell old p f l = ap told (frame_set old p f l)
+own_cell : (old : List Cell) (p : ℕ) (f : Cell) → p < length old → cells_of (slice_set old p f) p ≡ f
+own_cell old p f l = frame_set old p f l
 
-abbrev fewer : List Frame → ℕ → List Frame
+abbrev fewer : List Cell → ℕ → List Cell
 fewer old p = slice_set old p (Left (left (cells_of old p) - 1))
 
-pub fewer_unpicked : (arena : List BareNode) (old : List Frame) (p : ℕ) (node : BareNode) → p < length old → slice_get arena p ≡ Some node → IsNoPick arena p → AreUnpickedIn arena old → AreUnpickedIn arena (fewer old p)
+pub fewer_unpicked : (arena : List BareNode) (old : List Cell) (p : ℕ) (node : BareNode) → p < length old → slice_get arena p ≡ Some node → IsNoPick arena p → AreUnpickedIn arena old → AreUnpickedIn arena (fewer old p)
 fewer_unpicked arena old p node l at no_pick u = set_unpicked arena old p (Left (left (cells_of old p) - 1)) node l at (λ k none. absurd (no_pick node at k)) u
 
-pub joined_more : (arena : List BareNode) (rows : List Row) (old : List Frame) (before : List ℕ) (p : ℕ) (k : Onward) → p < length old → AreUnpickedIn arena (fewer old p) → (left (cells_of old p) == 1) ≡ false → IsWay arena rows (row.Joins p) k → HasGone arena old (fewer old p) before before k
+pub joined_more : (arena : List BareNode) (rows : List Row) (old : List Cell) (before : List ℕ) (p : ℕ) (k : Onward) → p < length old → AreUnpickedIn arena (fewer old p) → (left (cells_of old p) == 1) ≡ false → IsWay arena rows (row.Joins p) k → HasGone arena old (fewer old p) before before k
 joined_more arena rows old before p k l u e w =
     let j = joins_is arena rows p k w in
     let c = cells_of old in
     subst (λ (i : Onward). HasGone arena old (fewer old p) before before i) (sym j.1)
     (record {
-      gone = gone_more c (cells_of (fewer old p)) p j.0 e (own_cell old p (Left (left (cells_of old p) - 1)) l) (λ q h. ap told (set_keeps old p (Left (left (cells_of old p) - 1)) [] q h));
+      gone = gone_more c (cells_of (fewer old p)) p j.0 e (own_cell old p (Left (left (cells_of old p) - 1)) l) (λ q h. (set_keeps old p (Left (left (cells_of old p) - 1)) [] q h));
       unpicked = u;
       long = length_set old p (Left (left (cells_of old p) - 1));
       came = subst (λ (ns : List ℕ). ComeIn before before ns) (sym (brings_more c p j.0 e)) (come_none before);
     })
 
-pub joined_last : (arena : List BareNode) (rows : List Row) (old new : List Frame) (before after : List ℕ) (p : ℕ) (k : Onward) → p < length old → (left (cells_of old p) == 1) ≡ true → ((j : Onward) → IsWay arena rows (after_at rows p) j → HasGone arena (fewer old p) new before after j) → IsWay arena rows (row.Joins p) k → HasGone arena old new before after k
+pub joined_last : (arena : List BareNode) (rows : List Row) (old new : List Cell) (before after : List ℕ) (p : ℕ) (k : Onward) → p < length old → (left (cells_of old p) == 1) ≡ true → ((j : Onward) → IsWay arena rows (after_at rows p) j → HasGone arena (fewer old p) new before after j) → IsWay arena rows (row.Joins p) k → HasGone arena old new before after k
 joined_last arena rows old new before after p k l e on w =
     let j = joins_is arena rows p k w in
     let c = cells_of old in
     let d = cells_of (fewer old p) in
     let one = same_number (left (c p)) 1 e in
-    let kept = λ (q : ℕ) (h : has (p ∷ []) q ≡ false). ap told (set_keeps old p (Left (left (cells_of old p) - 1)) [] q h) in
+    let kept = λ (q : ℕ) (h : has (p ∷ []) q ≡ false). (set_keeps old p (Left (left (cells_of old p) - 1)) [] q h) in
     let g = on j.0 j.3 in
     subst (λ (i : Onward). HasGone arena old new before after i) (sym j.1)
     (record {
@@ -169,9 +166,6 @@ joined_last arena rows old new before after p k l e on w =
     })
 
 -- ---- non-sequentials
-
-pub length_picked : (f : Frame) → length (picked (told f)) ≡ picked_by f
-length_picked f = ap (λ (l : List ℕ). length l) (picked_told f) ∙ length_upto (picked_by f)
 
 not_all : (a b n : ℕ) → a ≡ n → (n ≡ b → ⊥) → (a == b) ≡ false
 not_all a b n e h = go (a == b) refl
@@ -191,11 +185,11 @@ chosen_yes false x y e = absurd (cc)
 is_all : (a b : ℕ) → a ≡ b → (a == b) ≡ true
 is_all a b e = grind (arith, nat_tests)
 
-pub picks_more : (arena : List BareNode) (rows : List Row) (old : List Frame) (before after : List ℕ) (p : ℕ) (k : Onward) → AreUnpickedIn arena old → (picked_by (frame_at old p) ≡ count_at arena p → ⊥) → ((q : ℕ) → holds after q ≡ ((q == p) || holds before q)) → IsWay arena rows (row.PicksOn p) k → HasGone arena old old before after k
+pub picks_more : (arena : List BareNode) (rows : List Row) (old : List Cell) (before after : List ℕ) (p : ℕ) (k : Onward) → AreUnpickedIn arena old → (length (picked (cells_of old p)) ≡ count_at arena p → ⊥) → ((q : ℕ) → holds after q ≡ ((q == p) || holds before q)) → IsWay arena rows (row.PicksOn p) k → HasGone arena old old before after k
 picks_more arena rows old before after p k u some put w =
     let j = picks_is arena rows p k w in
     let c = cells_of old in
-    let few = not_all (length (picked (c p))) (count_at arena p) (picked_by (frame_at old p)) (length_picked (frame_at old p)) some in
+    let few = not_all (length (picked (c p))) (count_at arena p) (length (picked (cells_of old p))) refl some in
     subst (λ (i : Onward). HasGone arena old old before after i) (sym j.1)
     (record {
       gone = gone_picks c p (count_at arena p) j.0 few;
@@ -204,11 +198,11 @@ picks_more arena rows old before after p k u some put w =
       came = subst (λ (ns : List ℕ). ComeIn before after ns) (sym (chosen_no (length (picked (c p)) == count_at arena p) (brings c j.0) (p ∷ []) few)) (come_one before after p put);
     })
 
-pub picked_last : (arena : List BareNode) (rows : List Row) (old new : List Frame) (before after : List ℕ) (p : ℕ) (k : Onward) → picked_by (frame_at old p) ≡ count_at arena p → ((j : Onward) → IsWay arena rows (after_at rows p) j → HasGone arena old new before after j) → IsWay arena rows (row.PicksOn p) k → HasGone arena old new before after k
+pub picked_last : (arena : List BareNode) (rows : List Row) (old new : List Cell) (before after : List ℕ) (p : ℕ) (k : Onward) → length (picked (cells_of old p)) ≡ count_at arena p → ((j : Onward) → IsWay arena rows (after_at rows p) j → HasGone arena old new before after j) → IsWay arena rows (row.PicksOn p) k → HasGone arena old new before after k
 picked_last arena rows old new before after p k all_of on w =
     let j = picks_is arena rows p k w in
     let c = cells_of old in
-    let one : length (picked (c p)) ≡ count_at arena p = length_picked (frame_at old p) ∙ all_of in
+    let one : length (picked (c p)) ≡ count_at arena p = all_of in
     let g = on j.0 j.3 in
     subst (λ (i : Onward). HasGone arena old new before after i) (sym j.1)
     (record {

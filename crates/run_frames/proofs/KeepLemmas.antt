@@ -7,18 +7,17 @@ use Rattle.trace_law.specs.Of.{only}
 use Rattle.trace_law.specs.Own.{picks, turns}
 use Rattle.trace_law.specs.Elements.{part_at}
 use Rattle.trace_law.specs.Next.{next}
-use Rattle.trace_law.specs.Cells.{Cell, first_answer, last_answer, last_body, AreKept, WhereTrue, WhereSome}
+use Rattle.trace_law.specs.Cells.{AreKept, Cell, WhereSome, WhereTrue, first_answer, last_answer, last_body}
 use Rattle.trace_law.specs.Frames.{is_shared, WhereEmpty, OfFirst, OfLast, OfBranch, Stands, StandsInOrder, StandsEach, StandsAt}
 use Rattle.run_log.specs.declared.entry.Entry.{Entry}
-use Rattle.run_frames.specs.declared.frame.Frame.{Frame}
-use Rattle.run_frames.specs.Frames.{told, frame_at, cells_of}
+use Rattle.run_frames.specs.Frames.{cells_of}
 
 -- the frames of these nodes are the same
-abbrev pub AreAlike : List Frame → List Frame → List ℕ → Type 0
-AreAlike f f' ns = (m : ℕ) → has ns m ≡ true → frame_at f' m ≡ frame_at f m
+abbrev pub AreAlike : List Cell → List Cell → List ℕ → Type 0
+AreAlike f f' ns = (m : ℕ) → has ns m ≡ true → cells_of f' m ≡ cells_of f m
 
-pub alike_cells : (f f' : List Frame) (ns : List ℕ) → AreAlike f f' ns → AreKept (cells_of f) (cells_of f') ns
-alike_cells f f' ns h m i = ap told (h m i)
+pub alike_cells : (f f' : List Cell) (ns : List ℕ) → AreAlike f f' ns → AreKept (cells_of f) (cells_of f') ns
+alike_cells f f' ns h m i = h m i
 
 -- ---- parts of a list of nodes
 

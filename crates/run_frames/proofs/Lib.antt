@@ -2,8 +2,9 @@ pub mod RenamingLemmas
 pub mod RenamedPartLemmas
 pub mod KeepLemmas
 pub mod PlacedLemmas
-pub mod CountLemmas
 pub mod WriteLemmas
+pub mod CellLemmas
+pub mod RoomLemmas
 pub mod NumberLemmas
 pub mod NumberedLemmas
 pub mod OrderLemmas
@@ -22,4 +23,5 @@ pub mod LookLemmas
 pub mod StandLemmas
 pub mod RenamedLookLemmas
 pub mod ReadyLemmas
+pub mod MayLemmas
 pub mod WaitLemmas

@@ -9,7 +9,7 @@ use Rattle.exec_tree.specs.declared.kind.Kind.TheVariants as kind
 use Rattle.exec_tree.specs.declared.node.BareNode.{BareNode}
 use Rattle.trace_law.specs.Next.{next, next_each}
 use Rattle.trace_law.specs.State.{stage_step}
-use Rattle.trace_law.specs.Cells.{Cell, Over, stage_of, picked, work_after, cell_of_stage}
+use Rattle.trace_law.specs.Cells.{Cell, Over, cell_of_stage, picked, stage_of, work_after}
 use Rattle.trace_law.specs.Frames.{is_shared, left}
 use Rattle.trace_law.specs.Leading.{has_none, leads, leads_first}
 use Rattle.run_log.specs.declared.entry.Entry.{Entry}
@@ -30,9 +30,8 @@ use Rattle.tree_table.proofs.ListLemmas.{drop_at, has_self}
 use Rattle.tree_table.proofs.PlacedLemmas.{count_is}
 use Rattle.tree_table.proofs.LeadLemmas.{lead_each}
 use Rattle.tree_table.proofs.OpenLemmas.{entrance_leads, entrance_node, parallel_is}
-use Rattle.run_frames.specs.declared.frame.Frame.{Frame}
-use Rattle.run_frames.specs.Entries.{cut, ends, answer_in}
-use Rattle.run_frames.specs.Frames.{told, frame_at, cells_of, picked_by}
+use Rattle.run_frames.specs.Entries.{index_in, cut, ends, answer_in}
+use Rattle.run_frames.specs.Frames.{cells_of}
 use Rattle.run_frames.specs.Renaming.{entry_at}
 use Rattle.run_frames.specs.Entered.{IsNode}
 use Rattle.run_frames.specs.Ways.{IsWay}
@@ -40,9 +39,9 @@ use Rattle.run_frames.specs.Held.{IsLeafKind, IsStep}
 use Rattle.run_frames.proofs.RenamingLemmas.{same_number}
 use Rattle.run_frames.proofs.WriteLemmas.{frame_other, set_keeps, clash}
 use Rattle.run_frames.proofs.EnterLemmas.{elements_once}
-use Rattle.run_frames.proofs.GoLemmas.{joins_is, picks_is, length_picked}
+use Rattle.run_frames.proofs.GoLemmas.{joins_is, picks_is}
 use Rattle.run_frames.proofs.StepLemmas.{follows, found_is, offer_is, leaf_is, element_is, branch_is, body_is, cut_over, test_is}
-use Rattle.run_frames.proofs.PickLemmas.{at, picks_next, chooses_first}
+use Rattle.run_frames.proofs.PickLemmas.{at, picks_left, chooses_one}
 use Rattle.run_frames.proofs.TestLemmas.{taken}
 
 -- ---- sums
@@ -166,28 +165,28 @@ way_opened arena rows c p (PicksOn n total j) s s' w h = absurd (let e : row.Ope
 way_opened arena rows c p (TestsAgain n) s s' w h = absurd (let e : row.Opens p ≡ row.TestsAgain n = w.told in cc)
 
 -- a parallel that has one element less, and was that its last
-pub way_joined : (arena : List BareNode) (rows : List Row) (old new : List Frame) (p : ℕ) (frame : Frame) (k : Onward) (s s' : ℕ) → new ≡ slice_set old p frame → (left (cells_of old p) == 1) ≡ true → ((j : Onward) → IsWay arena rows (after_at rows p) j → s' ≤ s + way_looks (cells_of new) j) → IsWay arena rows (row.Joins p) k → s' ≤ s + way_looks (cells_of old) k
+pub way_joined : (arena : List BareNode) (rows : List Row) (old new : List Cell) (p : ℕ) (frame : Cell) (k : Onward) (s s' : ℕ) → new ≡ slice_set old p frame → (left (cells_of old p) == 1) ≡ true → ((j : Onward) → IsWay arena rows (after_at rows p) j → s' ≤ s + way_looks (cells_of new) j) → IsWay arena rows (row.Joins p) k → s' ≤ s + way_looks (cells_of old) k
 way_joined arena rows old new p frame k s s' is last on w =
     let j = joins_is arena rows p k w in
     let c = cells_of old in
     let d = cells_of new in
     let one = same_number (left (c p)) 1 last in
-    let kept = λ (q : ℕ) (h : has (p ∷ []) q ≡ false). subst (λ (l : List Frame). cells_of l q ≡ c q) (sym is) (ap told (set_keeps old p frame [] q h)) in
+    let kept = λ (q : ℕ) (h : has (p ∷ []) q ≡ false). subst (λ (l : List Cell). cells_of l q ≡ c q) (sym is) ((set_keeps old p frame [] q h)) in
     let same : way_looks c k ≡ way_looks d j.0 = ap (way_looks c) j.1 ∙ looks_last c d p j.0 j.2.distinct one kept in
     up_as s s' (way_looks d j.0) (way_looks c k) (on j.0 j.3) (sym same)
 
-pub way_picked : (arena : List BareNode) (rows : List Row) (old : List Frame) (p : ℕ) (k : Onward) (s m s' : ℕ) → picked_by (frame_at old p) ≡ count_at arena p → m ≤ s + 1 → ((j : Onward) → IsWay arena rows (after_at rows p) j → s' ≤ m + way_looks (cells_of old) j) → IsWay arena rows (row.PicksOn p) k → s' ≤ s + way_looks (cells_of old) k
+pub way_picked : (arena : List BareNode) (rows : List Row) (old : List Cell) (p : ℕ) (k : Onward) (s m s' : ℕ) → length (picked (cells_of old p)) ≡ count_at arena p → m ≤ s + 1 → ((j : Onward) → IsWay arena rows (after_at rows p) j → s' ≤ m + way_looks (cells_of old) j) → IsWay arena rows (row.PicksOn p) k → s' ≤ s + way_looks (cells_of old) k
 way_picked arena rows old p k s m s' all_of look on w =
     let j = picks_is arena rows p k w in
     let c = cells_of old in
-    let one : length (picked (c p)) ≡ count_at arena p = length_picked (frame_at old p) ∙ all_of in
+    let one : length (picked (c p)) ≡ count_at arena p = all_of in
     let same : way_looks c k ≡ way_looks c j.0 + 1 = ap (way_looks c) j.1 ∙ looks_picked c p (count_at arena p) j.0 one in
     sum s m s' (way_looks c j.0) (way_looks c k) look (on j.0 j.3) same
   where
     sum : (s m s' a b : ℕ) → m ≤ s + 1 → s' ≤ m + a → b ≡ a + 1 → s' ≤ s + b
     sum s m s' a b h g e = omega (arith, h, g, e)
 
-pub way_asked : (arena : List BareNode) (rows : List Row) (old : List Frame) (p : ℕ) (k : Onward) (s s' : ℕ) → s' ≤ s + 1 → IsWay arena rows (row.PicksOn p) k → s' ≤ s + way_looks (cells_of old) k
+pub way_asked : (arena : List BareNode) (rows : List Row) (old : List Cell) (p : ℕ) (k : Onward) (s s' : ℕ) → s' ≤ s + 1 → IsWay arena rows (row.PicksOn p) k → s' ≤ s + way_looks (cells_of old) k
 way_asked arena rows old p k s s' look w =
     let j = picks_is arena rows p k w in
     let c = cells_of old in
@@ -214,12 +213,12 @@ own_node kind.Wait n p es a = has_self p []
 own_node kind.Note n p es a = has_self p []
 
 -- what is written at it changes no look on the way from it
-pub way_written : (arena : List BareNode) (rows : List Row) (f : List Frame) (set : List ℕ) (t : List Entry) (p : ℕ) (frame : Frame) (x : Entry) (k : Kind) (elements : List ℕ) → IsTable arena rows → AreDistinct (nodes (placed arena)) → IsStep arena f set t p x → IsNode arena p k elements → (k ≡ kind.Plan → ⊥)
+pub way_written : (arena : List BareNode) (rows : List Row) (f : List Cell) (set : List ℕ) (t : List Entry) (p : ℕ) (frame : Cell) (x : Entry) (k : Kind) (elements : List ℕ) → IsTable arena rows → AreDistinct (nodes (placed arena)) → IsStep arena f set t p x → IsNode arena p k elements → (k ≡ kind.Plan → ⊥)
     → way_looks (cells_of (slice_set f p frame)) (onward (placed arena) Done p) ≡ way_looks (cells_of f) (onward (placed arena) Done p)
 way_written arena rows f set t p frame x k elements table d s n plan =
     let e = placed arena in
     let own : has (nodes (tree.executable_at e p)) p ≡ true = subst (λ (g : Exec). has (nodes g) p ≡ true) (sym (found_is arena rows f set t p x k elements table d s n)) (own_node k n.node.number p _ plan) in
-    looks_after (cells_of f) (cells_of (slice_set f p frame)) e p d (λ q h. ap told (frame_other f p q frame (λ j. clash (has (nodes (tree.executable_at e p)) q) (subst (λ (r : ℕ). has (nodes (tree.executable_at e p)) r ≡ true) j own) h)))
+    looks_after (cells_of f) (cells_of (slice_set f p frame)) e p d (λ q h. (frame_other f p q frame (λ j. clash (has (nodes (tree.executable_at e p)) q) (subst (λ (r : ℕ). has (nodes (tree.executable_at e p)) r ≡ true) j own) h)))
 
 element_any : (e : Exec) (o : ℕ) → element_looks e 0 ≤ element_looks e o
 element_any e o = go (has_none (next e []))
@@ -239,7 +238,7 @@ element_void e o h =
     sum x y f o a b = omega (arith, a, b)
 
 -- a workingstep that ends
-pub work_looked : (arena : List BareNode) (rows : List Row) (f : List Frame) (set : List ℕ) (t : List Entry) (p : ℕ) (x : Entry) (elements : List ℕ) (s s' : ℕ) → IsTable arena rows → AreDistinct (nodes (placed arena)) → IsNode arena p kind.Work elements → IsStep arena f set t p x → ends x ≡ true
+pub work_looked : (arena : List BareNode) (rows : List Row) (f : List Cell) (set : List ℕ) (t : List Entry) (p : ℕ) (x : Entry) (elements : List ℕ) (s s' : ℕ) → IsTable arena rows → AreDistinct (nodes (placed arena)) → IsNode arena p kind.Work elements → IsStep arena f set t p x → ends x ≡ true
     → s' ≤ s + way_looks (cells_of (slice_set f p (cut x))) (onward (placed arena) Done p) → s' ≤ s + node_looks (cells_of f) (tree.executable_at (placed arena) p) (entry_at p x) (onward (placed arena) Done p)
 work_looked arena rows f set t p x elements s s' table d n st on h =
     let e = placed arena in
@@ -253,7 +252,7 @@ work_looked arena rows f set t p x elements s s' table d n st on h =
     let looked : node_looks c (tree.executable_at e p) y k ≡ way_looks c k = ap (λ (g : Exec). node_looks c g y k) is ∙ ap (λ (w : Cell). where_over w (way_looks c k)) over in
     up_as s s' (way_looks (cells_of (slice_set f p (cut x))) k) (node_looks c (tree.executable_at e p) y k) h (way_written arena rows f set t p (cut x) x kind.Work elements table d st n (λ j. (let w : kind.Work ≡ kind.Plan = j in cc)) ∙ sym looked)
 
-pub leaf_looked : (arena : List BareNode) (rows : List Row) (f : List Frame) (set : List ℕ) (t : List Entry) (p : ℕ) (frame : Frame) (x : Entry) (k : Kind) (elements : List ℕ) (s s' : ℕ) → IsTable arena rows → AreDistinct (nodes (placed arena)) → IsNode arena p k elements → IsLeafKind k → IsStep arena f set t p x
+pub leaf_looked : (arena : List BareNode) (rows : List Row) (f : List Cell) (set : List ℕ) (t : List Entry) (p : ℕ) (frame : Cell) (x : Entry) (k : Kind) (elements : List ℕ) (s s' : ℕ) → IsTable arena rows → AreDistinct (nodes (placed arena)) → IsNode arena p k elements → IsLeafKind k → IsStep arena f set t p x
     → s' ≤ s + way_looks (cells_of (slice_set f p frame)) (onward (placed arena) Done p) → s' ≤ s + node_looks (cells_of f) (tree.executable_at (placed arena) p) (entry_at p x) (onward (placed arena) Done p)
 leaf_looked arena rows f set t p frame x k elements s s' table d n leaf st h =
     let e = placed arena in
@@ -266,60 +265,60 @@ leaf_looked arena rows f set t p frame x k elements s s' table d n leaf st h =
     up_as s s' (way_looks (cells_of (slice_set f p frame)) j) (node_looks c (tree.executable_at e p) y j) h (way_written arena rows f set t p frame x k elements table d st n (λ i. subst IsLeafKind i leaf) ∙ sym looked)
 
 -- the looks of a pick of a non-sequential, at its element and on the way
-pick_node : (arena : List BareNode) (rows : List Row) (f : List Frame) (set : List ℕ) (t : List Entry) (p k : ℕ) (x : Entry) (elements : List ℕ) → IsTable arena rows → AreDistinct (nodes (placed arena)) → IsNode arena p kind.NonSeq elements → k ≡ picked_by (frame_at f p) → IsStep arena f set t p x
-    → node_looks (cells_of f) (tree.executable_at (placed arena) p) (entry_at p x) (onward (placed arena) Done p) ≡ element_looks (at arena rows p elements k) (if k + 1 == length elements then way_looks (cells_of f) (onward (placed arena) Done p) else 0)
+pick_node : (arena : List BareNode) (rows : List Row) (f : List Cell) (set : List ℕ) (t : List Entry) (p k : ℕ) (x : Entry) (elements : List ℕ) → IsTable arena rows → AreDistinct (nodes (placed arena)) → IsNode arena p kind.NonSeq elements → k ≡ index_in x → IsStep arena f set t p x
+    → node_looks (cells_of f) (tree.executable_at (placed arena) p) (entry_at p x) (onward (placed arena) Done p) ≡ element_looks (at arena rows p elements k) (if length (picked (cells_of f p)) + 1 == length elements then way_looks (cells_of f) (onward (placed arena) Done p) else 0)
 pick_node arena rows f set t p k x elements table d n is st =
     let e = placed arena in
     let c = cells_of f in
     let j : Onward = onward e Done p in
     let es = to_execs (placed_all arena (levels_at rows p - 1) elements) in
-    let entry = picks_next arena f set t p x elements n st in
+    let entry = picks_left arena f set t p x elements n st in
     let pick : entry_at p x ≡ Pick p k = entry.0 ∙ ap (λ (i : ℕ). Pick p i) (sym is) in
     let lt : k < length elements = subst (λ (i : ℕ). i < length elements) (sym is) entry.1 in
     let found : tree.executable_at e p ≡ NonSeq p es = found_is arena rows f set t p x kind.NonSeq elements table d st n in
-    let done : length (picked (c p)) ≡ k = length_picked (frame_at f p) ∙ sym is in
     ap (λ (g : Exec). node_looks c g (entry_at p x) j) found
     ∙ (ap (λ (y : Entry). node_looks c (NonSeq p es) y j) pick
     ∙ (pick_looks c p es k j
     ∙ (ap (λ (g : Exec). element_looks g (if length (picked (c p)) + 1 == count es then way_looks c j else 0)) (element_is arena (levels_at rows p - 1) elements k lt)
-    ∙ (ap (λ (i : ℕ). element_looks (at arena rows p elements k) (if i + 1 == count es then way_looks c j else 0)) done
-    ∙ ap (λ (i : ℕ). element_looks (at arena rows p elements k) (if k + 1 == i then way_looks c j else 0)) (count_is arena (levels_at rows p - 1) elements)))))
+    ∙ ap (λ (i : ℕ). element_looks (at arena rows p elements k) (if length (picked (c p)) + 1 == i then way_looks c j else 0)) (count_is arena (levels_at rows p - 1) elements))))
 
-pub pick_looked : (arena : List BareNode) (rows : List Row) (f : List Frame) (set : List ℕ) (t : List Entry) (p k : ℕ) (x : Entry) (elements : List ℕ) (s s' : ℕ) → IsTable arena rows → AreDistinct (nodes (placed arena)) → IsNode arena p kind.NonSeq elements → k ≡ picked_by (frame_at f p) → IsStep arena f set t p x
+pub pick_looked : (arena : List BareNode) (rows : List Row) (f : List Cell) (set : List ℕ) (t : List Entry) (p k : ℕ) (x : Entry) (elements : List ℕ) (s s' : ℕ) → IsTable arena rows → AreDistinct (nodes (placed arena)) → IsNode arena p kind.NonSeq elements → k ≡ index_in x → IsStep arena f set t p x
     → s' ≤ s + element_looks (at arena rows p elements k) 0 → s' ≤ s + node_looks (cells_of f) (tree.executable_at (placed arena) p) (entry_at p x) (onward (placed arena) Done p)
 pick_looked arena rows f set t p k x elements s s' table d n is st h =
     let w = way_looks (cells_of f) (onward (placed arena) Done p) in
-    up_as s s' (element_looks (at arena rows p elements k) (if k + 1 == length elements then w else 0)) _
-    (up_to s s' (element_looks (at arena rows p elements k) 0) _ h (element_any (at arena rows p elements k) (if k + 1 == length elements then w else 0))) (sym (pick_node arena rows f set t p k x elements table d n is st))
+    up_as s s' (element_looks (at arena rows p elements k) (if length (picked (cells_of f p)) + 1 == length elements then w else 0)) _
+    (up_to s s' (element_looks (at arena rows p elements k) 0) _ h (element_any (at arena rows p elements k) (if length (picked (cells_of f p)) + 1 == length elements then w else 0))) (sym (pick_node arena rows f set t p k x elements table d n is st))
 
-pub last_looked : (arena : List BareNode) (rows : List Row) (f : List Frame) (set : List ℕ) (t : List Entry) (p k : ℕ) (x : Entry) (elements : List ℕ) (frame : Frame) (s m s' : ℕ) → IsTable arena rows → AreDistinct (nodes (placed arena)) → IsNode arena p kind.NonSeq elements → k ≡ picked_by (frame_at f p) → IsStep arena f set t p x
-    → next (at arena rows p elements k) [] ≡ [] → k + 1 ≡ length elements → m ≤ s + element_looks (at arena rows p elements k) 0 → s' ≤ m + way_looks (cells_of (slice_set f p frame)) (onward (placed arena) Done p) → s' ≤ s + node_looks (cells_of f) (tree.executable_at (placed arena) p) (entry_at p x) (onward (placed arena) Done p)
+pub last_looked : (arena : List BareNode) (rows : List Row) (f : List Cell) (set : List ℕ) (t : List Entry) (p k : ℕ) (x : Entry) (elements : List ℕ) (frame : Cell) (s m s' : ℕ) → IsTable arena rows → AreDistinct (nodes (placed arena)) → IsNode arena p kind.NonSeq elements → k ≡ index_in x → IsStep arena f set t p x
+    → next (at arena rows p elements k) [] ≡ [] → length (picked (cells_of f p)) + 1 ≡ length elements → m ≤ s + element_looks (at arena rows p elements k) 0 → s' ≤ m + way_looks (cells_of (slice_set f p frame)) (onward (placed arena) Done p) → s' ≤ s + node_looks (cells_of f) (tree.executable_at (placed arena) p) (entry_at p x) (onward (placed arena) Done p)
 last_looked arena rows f set t p k x elements frame s m s' table d n is st none last h g =
     let j : Onward = onward (placed arena) Done p in
     let w = way_looks (cells_of f) j in
     let e = at arena rows p elements k in
     let written = way_written arena rows f set t p frame x kind.NonSeq elements table d st n (λ i. (let o : kind.NonSeq ≡ kind.Plan = i in cc)) in
     let all_of : node_looks (cells_of f) (tree.executable_at (placed arena) p) (entry_at p x) j ≡ element_looks e w =
-    pick_node arena rows f set t p k x elements table d n is st ∙ ap (λ (b : Bool). element_looks e (if b then w else 0)) (tested (k + 1) (length elements) last) in
+    pick_node arena rows f set t p k x elements table d n is st ∙ ap (λ (b : Bool). element_looks e (if b then w else 0)) (tested (length (picked (cells_of f p)) + 1) (length elements) last) in
     up_as s s' (element_looks e w) _ (up_both s m s' (element_looks e 0) w (element_looks e w) h (up_as m s' (way_looks (cells_of (slice_set f p frame)) j) w g written) (element_void e w none)) (sym all_of)
   where
     tested : (a b : ℕ) → a ≡ b → (a == b) ≡ true
     tested a b e = grind (arith, nat_tests)
 
-choice_node : (arena : List BareNode) (rows : List Row) (f : List Frame) (set : List ℕ) (t : List Entry) (p : ℕ) (x : Entry) (elements : List ℕ) → IsTable arena rows → AreDistinct (nodes (placed arena)) → IsNode arena p kind.Sel elements → IsStep arena f set t p x
-    → node_looks (cells_of f) (tree.executable_at (placed arena) p) (entry_at p x) (onward (placed arena) Done p) ≡ element_looks (at arena rows p elements 0) (way_looks (cells_of f) (onward (placed arena) Done p))
-choice_node arena rows f set t p x elements table d n st =
+choice_node : (arena : List BareNode) (rows : List Row) (f : List Cell) (set : List ℕ) (t : List Entry) (p k : ℕ) (x : Entry) (elements : List ℕ) → IsTable arena rows → AreDistinct (nodes (placed arena)) → IsNode arena p kind.Sel elements → k ≡ index_in x → IsStep arena f set t p x
+    → node_looks (cells_of f) (tree.executable_at (placed arena) p) (entry_at p x) (onward (placed arena) Done p) ≡ element_looks (at arena rows p elements k) (way_looks (cells_of f) (onward (placed arena) Done p))
+choice_node arena rows f set t p k x elements table d n is st =
     let e = placed arena in
     let c = cells_of f in
     let j : Onward = onward e Done p in
     let es = to_execs (placed_all arena (levels_at rows p - 1) elements) in
-    let entry = chooses_first arena f set t p x elements n st in
+    let entry = chooses_one arena f set t p x elements n st in
+    let pick : entry_at p x ≡ Pick p k = entry.0 ∙ ap (λ (i : ℕ). Pick p i) (sym is) in
+    let lt : k < length elements = subst (λ (i : ℕ). i < length elements) (sym is) entry.1 in
     let found : tree.executable_at e p ≡ Sel p es = found_is arena rows f set t p x kind.Sel elements table d st n in
     ap (λ (g : Exec). node_looks c g (entry_at p x) j) found
-    ∙ (ap (λ (y : Entry). node_looks c (Sel p es) y j) entry.0
-    ∙ (choice_looks c p es 0 j ∙ ap (λ (g : Exec). element_looks g (way_looks c j)) (element_is arena (levels_at rows p - 1) elements 0 entry.1)))
+    ∙ (ap (λ (y : Entry). node_looks c (Sel p es) y j) pick
+    ∙ (choice_looks c p es k j ∙ ap (λ (g : Exec). element_looks g (way_looks c j)) (element_is arena (levels_at rows p - 1) elements k lt)))
 
-branch_node : (arena : List BareNode) (rows : List Row) (f : List Frame) (set : List ℕ) (t : List Entry) (p : ℕ) (x : Entry) (elements : List ℕ) → IsTable arena rows → AreDistinct (nodes (placed arena)) → IsNode arena p kind.If elements → HasArity kind.If elements → IsStep arena f set t p x
+branch_node : (arena : List BareNode) (rows : List Row) (f : List Cell) (set : List ℕ) (t : List Entry) (p : ℕ) (x : Entry) (elements : List ℕ) → IsTable arena rows → AreDistinct (nodes (placed arena)) → IsNode arena p kind.If elements → HasArity kind.If elements → IsStep arena f set t p x
     → node_looks (cells_of f) (tree.executable_at (placed arena) p) (entry_at p x) (onward (placed arena) Done p) ≡ element_looks (taken arena rows p elements (answer_in x)) (way_looks (cells_of f) (onward (placed arena) Done p))
 branch_node arena rows f set t p x elements table d n arity st =
     let e = placed arena in
@@ -327,7 +326,7 @@ branch_node arena rows f set t p x elements table d n arity st =
     let j : Onward = onward e Done p in
     let a = first_of (placed_all arena (levels_at rows p - 1) elements) in
     let b = second_of (placed_all arena (levels_at rows p - 1) elements) in
-    let test : entry_at p x ≡ Test p (answer_in x) = test_is p x (offer_is arena f set t p x kind.If elements st n).0 in
+    let test : entry_at p x ≡ Test p (answer_in x) = test_is p x (offer_is arena f set t p x kind.If elements st n) in
     let found : tree.executable_at e p ≡ If p a b = found_is arena rows f set t p x kind.If elements table d st n in
     ap (λ (g : Exec). node_looks c g (entry_at p x) j) found
     ∙ (ap (λ (y : Entry). node_looks c (If p a b) y j) test
@@ -340,33 +339,33 @@ either_looked e looks w s s' is h = up_as s s' (element_looks e w) looks (up_to 
 over_looked : (e : Exec) (looks w v s m s' : ℕ) → looks ≡ element_looks e w → next e [] ≡ [] → v ≡ w → m ≤ s + element_looks e 0 → s' ≤ m + v → s' ≤ s + looks
 over_looked e looks w v s m s' is none same h g = up_as s s' (element_looks e w) looks (up_both s m s' (element_looks e 0) w (element_looks e w) h (up_as m s' v w g same) (element_void e w none)) (sym is)
 
-pub choice_looked : (arena : List BareNode) (rows : List Row) (f : List Frame) (set : List ℕ) (t : List Entry) (p : ℕ) (x : Entry) (elements : List ℕ) (s s' : ℕ) → IsTable arena rows → AreDistinct (nodes (placed arena)) → IsNode arena p kind.Sel elements → IsStep arena f set t p x
-    → s' ≤ s + element_looks (at arena rows p elements 0) 0 → s' ≤ s + node_looks (cells_of f) (tree.executable_at (placed arena) p) (entry_at p x) (onward (placed arena) Done p)
-choice_looked arena rows f set t p x elements s s' table d n st h =
-    either_looked (at arena rows p elements 0) _ (way_looks (cells_of f) (onward (placed arena) Done p)) s s' (choice_node arena rows f set t p x elements table d n st) h
+pub choice_looked : (arena : List BareNode) (rows : List Row) (f : List Cell) (set : List ℕ) (t : List Entry) (p k : ℕ) (x : Entry) (elements : List ℕ) (s s' : ℕ) → IsTable arena rows → AreDistinct (nodes (placed arena)) → IsNode arena p kind.Sel elements → k ≡ index_in x → IsStep arena f set t p x
+    → s' ≤ s + element_looks (at arena rows p elements k) 0 → s' ≤ s + node_looks (cells_of f) (tree.executable_at (placed arena) p) (entry_at p x) (onward (placed arena) Done p)
+choice_looked arena rows f set t p k x elements s s' table d n is st h =
+    either_looked (at arena rows p elements k) _ (way_looks (cells_of f) (onward (placed arena) Done p)) s s' (choice_node arena rows f set t p k x elements table d n is st) h
 
-pub choice_gone : (arena : List BareNode) (rows : List Row) (f : List Frame) (set : List ℕ) (t : List Entry) (p : ℕ) (x : Entry) (elements : List ℕ) (frame : Frame) (s m s' : ℕ) → IsTable arena rows → AreDistinct (nodes (placed arena)) → IsNode arena p kind.Sel elements → IsStep arena f set t p x → next (at arena rows p elements 0) [] ≡ []
-    → m ≤ s + element_looks (at arena rows p elements 0) 0 → s' ≤ m + way_looks (cells_of (slice_set f p frame)) (onward (placed arena) Done p) → s' ≤ s + node_looks (cells_of f) (tree.executable_at (placed arena) p) (entry_at p x) (onward (placed arena) Done p)
-choice_gone arena rows f set t p x elements frame s m s' table d n st none h g =
-    over_looked (at arena rows p elements 0) _ (way_looks (cells_of f) (onward (placed arena) Done p)) _ s m s' (choice_node arena rows f set t p x elements table d n st) none
+pub choice_gone : (arena : List BareNode) (rows : List Row) (f : List Cell) (set : List ℕ) (t : List Entry) (p k : ℕ) (x : Entry) (elements : List ℕ) (frame : Cell) (s m s' : ℕ) → IsTable arena rows → AreDistinct (nodes (placed arena)) → IsNode arena p kind.Sel elements → k ≡ index_in x → IsStep arena f set t p x → next (at arena rows p elements k) [] ≡ []
+    → m ≤ s + element_looks (at arena rows p elements k) 0 → s' ≤ m + way_looks (cells_of (slice_set f p frame)) (onward (placed arena) Done p) → s' ≤ s + node_looks (cells_of f) (tree.executable_at (placed arena) p) (entry_at p x) (onward (placed arena) Done p)
+choice_gone arena rows f set t p k x elements frame s m s' table d n is st none h g =
+    over_looked (at arena rows p elements k) _ (way_looks (cells_of f) (onward (placed arena) Done p)) _ s m s' (choice_node arena rows f set t p k x elements table d n is st) none
     (way_written arena rows f set t p frame x kind.Sel elements table d st n (λ i. (let o : kind.Sel ≡ kind.Plan = i in cc))) h g
 
-pub branch_looked : (arena : List BareNode) (rows : List Row) (f : List Frame) (set : List ℕ) (t : List Entry) (p : ℕ) (x : Entry) (elements : List ℕ) (s s' : ℕ) → IsTable arena rows → AreDistinct (nodes (placed arena)) → IsNode arena p kind.If elements → HasArity kind.If elements → IsStep arena f set t p x
+pub branch_looked : (arena : List BareNode) (rows : List Row) (f : List Cell) (set : List ℕ) (t : List Entry) (p : ℕ) (x : Entry) (elements : List ℕ) (s s' : ℕ) → IsTable arena rows → AreDistinct (nodes (placed arena)) → IsNode arena p kind.If elements → HasArity kind.If elements → IsStep arena f set t p x
     → s' ≤ s + element_looks (taken arena rows p elements (answer_in x)) 0 → s' ≤ s + node_looks (cells_of f) (tree.executable_at (placed arena) p) (entry_at p x) (onward (placed arena) Done p)
 branch_looked arena rows f set t p x elements s s' table d n arity st h =
     either_looked (taken arena rows p elements (answer_in x)) _ (way_looks (cells_of f) (onward (placed arena) Done p)) s s' (branch_node arena rows f set t p x elements table d n arity st) h
 
-pub branch_gone : (arena : List BareNode) (rows : List Row) (f : List Frame) (set : List ℕ) (t : List Entry) (p : ℕ) (x : Entry) (elements : List ℕ) (frame : Frame) (s m s' : ℕ) → IsTable arena rows → AreDistinct (nodes (placed arena)) → IsNode arena p kind.If elements → HasArity kind.If elements → IsStep arena f set t p x → next (taken arena rows p elements (answer_in x)) [] ≡ []
+pub branch_gone : (arena : List BareNode) (rows : List Row) (f : List Cell) (set : List ℕ) (t : List Entry) (p : ℕ) (x : Entry) (elements : List ℕ) (frame : Cell) (s m s' : ℕ) → IsTable arena rows → AreDistinct (nodes (placed arena)) → IsNode arena p kind.If elements → HasArity kind.If elements → IsStep arena f set t p x → next (taken arena rows p elements (answer_in x)) [] ≡ []
     → m ≤ s + element_looks (taken arena rows p elements (answer_in x)) 0 → s' ≤ m + way_looks (cells_of (slice_set f p frame)) (onward (placed arena) Done p) → s' ≤ s + node_looks (cells_of f) (tree.executable_at (placed arena) p) (entry_at p x) (onward (placed arena) Done p)
 branch_gone arena rows f set t p x elements frame s m s' table d n arity st none h g =
     over_looked (taken arena rows p elements (answer_in x)) _ (way_looks (cells_of f) (onward (placed arena) Done p)) _ s m s' (branch_node arena rows f set t p x elements table d n arity st) none
     (way_written arena rows f set t p frame x kind.If elements table d st n (λ i. (let o : kind.If ≡ kind.Plan = i in cc))) h g
 
 -- a while after a yes, and after a no
-turn_tests : (arena : List BareNode) (f : List Frame) (set : List ℕ) (t : List Entry) (p : ℕ) (x : Entry) (elements : List ℕ) (answer : Bool) → IsNode arena p kind.While elements → IsStep arena f set t p x → answer_in x ≡ answer → entry_at p x ≡ Test p answer
-turn_tests arena f set t p x elements answer n s e = test_is p x (offer_is arena f set t p x kind.While elements s n).0 ∙ ap (λ (b : Bool). Test p b) e
+turn_tests : (arena : List BareNode) (f : List Cell) (set : List ℕ) (t : List Entry) (p : ℕ) (x : Entry) (elements : List ℕ) (answer : Bool) → IsNode arena p kind.While elements → IsStep arena f set t p x → answer_in x ≡ answer → entry_at p x ≡ Test p answer
+turn_tests arena f set t p x elements answer n s e = test_is p x (offer_is arena f set t p x kind.While elements s n) ∙ ap (λ (b : Bool). Test p b) e
 
-pub turn_looked : (arena : List BareNode) (rows : List Row) (f : List Frame) (set : List ℕ) (t : List Entry) (p : ℕ) (x : Entry) (elements : List ℕ) (s s' : ℕ) → IsTable arena rows → AreDistinct (nodes (placed arena)) → IsNode arena p kind.While elements → HasArity kind.While elements → answer_in x ≡ true → IsStep arena f set t p x
+pub turn_looked : (arena : List BareNode) (rows : List Row) (f : List Cell) (set : List ℕ) (t : List Entry) (p : ℕ) (x : Entry) (elements : List ℕ) (s s' : ℕ) → IsTable arena rows → AreDistinct (nodes (placed arena)) → IsNode arena p kind.While elements → HasArity kind.While elements → answer_in x ≡ true → IsStep arena f set t p x
     → s' ≤ s + element_looks (at arena rows p elements 0) 0 → s' ≤ s + node_looks (cells_of f) (tree.executable_at (placed arena) p) (entry_at p x) (onward (placed arena) Done p)
 turn_looked arena rows f set t p x elements s s' table d n arity yes_is st h =
     let e = placed arena in
@@ -380,7 +379,7 @@ turn_looked arena rows f set t p x elements s s' table d n arity yes_is st h =
     ∙ (turn_looks c p a j ∙ ap (λ (g : Exec). element_looks g 0) (body_is arena (levels_at rows p - 1) elements arity))) in
     up_as s s' (element_looks (at arena rows p elements 0) 0) _ h (sym looked)
 
-pub turn_gone : (arena : List BareNode) (rows : List Row) (f : List Frame) (set : List ℕ) (t : List Entry) (p : ℕ) (x : Entry) (elements : List ℕ) (frame : Frame) (s s' : ℕ) → IsTable arena rows → AreDistinct (nodes (placed arena)) → IsNode arena p kind.While elements → answer_in x ≡ false → IsStep arena f set t p x
+pub turn_gone : (arena : List BareNode) (rows : List Row) (f : List Cell) (set : List ℕ) (t : List Entry) (p : ℕ) (x : Entry) (elements : List ℕ) (frame : Cell) (s s' : ℕ) → IsTable arena rows → AreDistinct (nodes (placed arena)) → IsNode arena p kind.While elements → answer_in x ≡ false → IsStep arena f set t p x
     → s' ≤ s + way_looks (cells_of (slice_set f p frame)) (onward (placed arena) Done p) → s' ≤ s + node_looks (cells_of f) (tree.executable_at (placed arena) p) (entry_at p x) (onward (placed arena) Done p)
 turn_gone arena rows f set t p x elements frame s s' table d n no_is st h =
     let e = placed arena in

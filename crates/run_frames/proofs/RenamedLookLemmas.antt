@@ -9,7 +9,7 @@ use Rattle.trace_law.specs.Own.{test_of, picks, Turn, Tested, turns}
 use Rattle.trace_law.specs.Elements.{part_at}
 use Rattle.trace_law.specs.Next.{next}
 use Rattle.trace_law.specs.Part.{Part}
-use Rattle.trace_law.specs.Cells.{first_answer, last_answer, last_body}
+use Rattle.trace_law.specs.Cells.{first_answer, last_answer, last_body, picked}
 use Rattle.trace_law.specs.Leading.{has_none}
 use Rattle.run_log.specs.declared.entry.Entry.{Entry}
 use Rattle.frame_law.specs.Executable.{own_number}
@@ -202,12 +202,12 @@ mutual
 -- ---- so the looks at places are bounded by the tree of numbers
 
 pub looks_by_numbers : (arena : List BareNode) (f : Frames) (t : List Entry) (x : Entry) (p n : ℕ) → AreOfTree arena → (s : IsAt arena f t) → Part (tree arena) (t ++ x ∷ []) → IsPlaceOf arena s.entries n p → number_of x ≡ Some n → AreNumbered (tree arena)
-    → looks (cells_of f.frames.items) (placed arena) (entry_at p x) p ≤ 2 + nesting (tree arena) + 2 * length (new_in (tree arena) t x)
+    → looks (cells_of f.frames.cells) (placed arena) (entry_at p x) p ≤ 2 + nesting (tree arena) + 2 * length (new_in (tree arena) t x)
 looks_by_numbers arena f t x p n a s q h k v =
     let r = names arena in
     let i = names_once arena a.distinct in
     let e = placed arena in
-    let c = cells_of f.frames.items in
+    let c = cells_of f.frames.cells in
     let y = entry_at p x in
     let name = names_are arena p h.inside ∙ h.is_number in
     let back : entry_renamed r y ≡ x = entry_back r p n x name k in

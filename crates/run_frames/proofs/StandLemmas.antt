@@ -11,7 +11,7 @@ use Rattle.trace_law.specs.Of.{number_of, is_of}
 use Rattle.trace_law.specs.Of as of
 use Rattle.trace_law.specs.Part.{Part}
 use Rattle.trace_law.specs.Next.{next}
-use Rattle.trace_law.specs.Offer.{Offer, Starts, Cuts, Does, Picks, Tests, Nothing, IsOffered, IsOpen, offer}
+use Rattle.trace_law.specs.Offer.{Offer, IsOffered, IsOpen, offer}
 use Rattle.trace_law.proofs.StepLemmas.{apart, only_all, next_has}
 use Rattle.trace_law.proofs.StepForthLemmas.{step_of}
 use Rattle.trace_law.proofs.StepBackLemmas.{part_nil, part_of_step, part_inside}
@@ -22,29 +22,26 @@ use Rattle.trace_law.proofs.OpenOfferLemmas.{opens}
 use Rattle.trace_law.proofs.FrameOfferLemmas.{offer_from_frames}
 use Rattle.trace_law.proofs.PreorderLemmas.{next_is_in_preorder}
 use Rattle.run_log.specs.declared.entry.Entry.{Entry}
-use Rattle.run_log.specs.declared.entry.Entry.TheVariants.{Dispatch, Block, End, Pick, Test, Assign, Set, Pass, Note, Edit}
 use Rattle.place_set.specs.Words.{holds}
 use Rattle.tree_table.specs.Placed.{placed, number_at}
 use Rattle.tree_table.specs.Table.{IsTable}
 use Rattle.tree_table.specs.declared.table.Table.{Table}
-use Rattle.std.specs.Global.{Vec}
 use Rattle.run_frames.specs.declared.frames.Frames.{Frames}
-use Rattle.run_frames.specs.declared.frame.Frame.{Frame}
-use Rattle.run_frames.specs.Deeds.{upto}
 use Rattle.run_frames.specs.Frames.{cells_of}
+use Rattle.run_frames.specs.Told.{NodeCells, rooms_of}
 use Rattle.run_frames.specs.Renaming.{IsOneToOne, renamed, entry_renamed, entry_at}
-use Rattle.run_frames.specs.OfferAt.{offer_there, IsInOrder}
+use Rattle.run_frames.specs.OfferAt.{offer_there}
 use Rattle.run_frames.specs.Entered.{IsEntered}
 use Rattle.run_frames.specs.Held.{IsHeld, IsStep}
 use Rattle.run_frames.specs.Ready.{is_empty}
-use Rattle.run_frames.specs.Standing.{IsAt, IsPlace, IsNextOf}
+use Rattle.run_frames.specs.Standing.{IsAt, IsPlace}
 use Rattle.run_frames.proofs.RenamingLemmas.{next_map, offer_map, nodes_map, number_map}
 use Rattle.run_frames.proofs.RenamedPartLemmas.{PartLaws, part_back}
-use Rattle.run_frames.proofs.CountLemmas.{length_upto}
 use Rattle.run_frames.proofs.DeedLemmas.{offers_there}
 use Rattle.run_frames.proofs.NumberLemmas.{numbered, renamed_same, entries_same, numbers_same, distinct_back, spread, spread_is, spread_once, place_with, entry_back, some_is}
 use Rattle.run_frames.proofs.NumberedLemmas.{numbered_down, place_found}
 use Rattle.run_frames.proofs.OrderLemmas.{Ascends, placed_ascends, part_ascends, part_within, find_least, find_nothing}
+use Rattle.trace_law.specs.Cells.{Cell}
 
 -- the tree of the nodes
 abbrev pub tree : List BareNode → Exec
@@ -165,9 +162,9 @@ place_of arena f t n a s h =
     (r.0, record { is_next = r.1; inside = inside; is_number = r.2; found = ap (place_from 0 arena) (sym r.2) ∙ found })
 
 -- what the node there does next
-pub offer_there_is : (arena : List BareNode) (f : Frames) (t : List Entry) (n p : ℕ) → AreOfTree arena → (s : IsAt arena f t) → IsPlaceOf arena s.entries n p → offer (tree arena) t n ≡ offer_there (slice_get arena p) (cells_of f.frames.items p)
+pub offer_there_is : (arena : List BareNode) (f : Frames) (t : List Entry) (n p : ℕ) → AreOfTree arena → (s : IsAt arena f t) → IsPlaceOf arena s.entries n p → offer (tree arena) t n ≡ offer_there (slice_get arena p) (cells_of f.frames.cells p)
 offer_there_is arena f t n p a s h =
-    let c = cells_of f.frames.items in
+    let c = cells_of f.frames.cells in
     let once = placed_once arena a.distinct in
     let name : names arena p ≡ n = names_are arena p h.inside ∙ h.is_number in
     ap (λ (w : Exec). offer w t n) (sym (named arena))
@@ -176,7 +173,7 @@ offer_there_is arena f t n p a s h =
     ∙ (offer_map (names arena) (names_once arena a.distinct) (placed arena) s.entries p
     ∙ (offer_from_frames c (placed arena) s.entries p (apart (placed arena) once) s.held.part s.held.stands h.is_next ∙ offers_there arena c MAX_TREE_NESTING 0 p a.shaped once h.inside))))
 
-pub does_something : (arena : List BareNode) (f : Frames) (t : List Entry) (n p : ℕ) → AreOfTree arena → (s : IsAt arena f t) → has (next (tree arena) t) n ≡ true → IsPlaceOf arena s.entries n p → IsOpen (offer_there (slice_get arena p) (cells_of f.frames.items p))
+pub does_something : (arena : List BareNode) (f : Frames) (t : List Entry) (n p : ℕ) → AreOfTree arena → (s : IsAt arena f t) → has (next (tree arena) t) n ≡ true → IsPlaceOf arena s.entries n p → IsOpen (offer_there (slice_get arena p) (cells_of f.frames.cells p))
 does_something arena f t n p a s i h = subst IsOpen (offer_there_is arena f t n p a s h) (opens (tree arena) t n (apart (tree arena) a.distinct) a.choices s.so_far i)
 
 -- ---- one entry more
@@ -197,33 +194,6 @@ part_more arena f t x p n a s q h k =
 pub number_here : (p n : ℕ) (x : Entry) → number_of x ≡ Some n → number_of (entry_at p x) ≡ Some p
 number_here p n x k = number_map (λ m. p) x ∙ ap (option_map (λ m. p)) k
 
-picks_same : (total : ℕ) (ks : List ℕ) (count k : ℕ) → Picks total ks ≡ Picks count (upto k) → ks ≡ upto k
-picks_same total ks count k h = ap picks_in h
-  where
-    picks_in : Offer → List ℕ
-    picks_in (Picks c l) = l
-    picks_in o = []
-
-in_order : (o : Offer) (x : Entry) (n : ℕ) → number_of x ≡ Some n → ((k : ℕ) → x ≡ Pick n k → (count : ℕ) × (o ≡ Picks count (upto k))) → IsInOrder o x
-in_order (Picks total ks) (Pick m k) n e h =
-    let same : m ≡ n = some_is m n e in
-    let r = h k (ap (λ (q : ℕ). Pick q k) same) in
-    sym (ap (λ (l : List ℕ). length l) (picks_same total ks r.0 k r.1) ∙ length_upto k)
-in_order (Picks total ks) (Dispatch m v) n e h = tt
-in_order (Picks total ks) (Block m k b) n e h = tt
-in_order (Picks total ks) (End m) n e h = tt
-in_order (Picks total ks) (Test m b) n e h = tt
-in_order (Picks total ks) (Assign m y) n e h = tt
-in_order (Picks total ks) (Set m) n e h = tt
-in_order (Picks total ks) (Pass m) n e h = tt
-in_order (Picks total ks) (Note m) n e h = tt
-in_order (Picks total ks) (Edit i v) n e h = tt
-in_order Starts x n e h = tt
-in_order (Cuts j) x n e h = tt
-in_order (Does j) x n e h = tt
-in_order Tests x n e h = tt
-in_order Nothing x n e h = tt
-
 -- an entry of a run so far has a number where the run can go on
 pub entry_next : (arena : List BareNode) (t : List Entry) (x : Entry) (n : ℕ) → AreDistinct (nodes (tree arena)) → Part (tree arena) (t ++ x ∷ []) → number_of x ≡ Some n → has (next (tree arena) t) n ≡ true
 entry_next arena t x n d q k = sym (ap (of.has_some (next (tree arena) t)) k) ∙ (parts.offered (tree arena) t x n d q k).0
@@ -236,9 +206,9 @@ numbered_entry arena t x d q k =
     (let w : true ≡ false = sym h ∙ f in cc)
 
 -- an entry that may follow is what the node at its number's place does next
-pub step_by : (arena : List BareNode) (f : Frames) (t : List Entry) (x : Entry) (p n : ℕ) → AreOfTree arena → (s : IsAt arena f t) → Part (tree arena) (t ++ x ∷ []) → IsInOrder (offer_there (slice_get arena p) (cells_of f.frames.items p)) x → IsPlaceOf arena s.entries n p → number_of x ≡ Some n → IsStep arena f.frames.items f.set.all s.entries p x
-step_by arena f t x p n a s q o h k =
-    let c = cells_of f.frames.items in
+pub step_by : (arena : List BareNode) (f : Frames) (t : List Entry) (x : Entry) (p n : ℕ) → AreOfTree arena → (s : IsAt arena f t) → Part (tree arena) (t ++ x ∷ []) → IsPlaceOf arena s.entries n p → number_of x ≡ Some n → IsStep arena f.frames.cells f.set.all s.entries p x
+step_by arena f t x p n a s q h k =
+    let c = cells_of f.frames.cells in
     let once = placed_once arena a.distinct in
     let more = part_more arena f t x p n a s q h k in
     let own : offer (placed arena) s.entries p ≡ offer_there (slice_get arena p) (c p) =
@@ -250,23 +220,18 @@ step_by arena f t x p n a s q o h k =
       inside = h.inside;
       is_next = h.is_next;
       offered = subst (λ (w : Offer). IsOffered w p (entry_at p x)) own (parts.offered (placed arena) s.entries (entry_at p x) p once more (number_here p n x k)).1;
-      in_order = o;
     }
 
-pub order_is : (arena : List BareNode) (f : Frames) (t : List Entry) (x : Entry) (p n : ℕ) → AreOfTree arena → (s : IsAt arena f t) → IsNextOf (tree arena) t x → IsPlaceOf arena s.entries n p → number_of x ≡ Some n → IsInOrder (offer_there (slice_get arena p) (cells_of f.frames.items p)) x
-order_is arena f t x p n a s o h k =
-    let there = offer_there_is arena f t n p a s h in
-    in_order (offer_there (slice_get arena p) (cells_of f.frames.items p)) x n k (λ j w. (let r = o n j w in (r.0, sym there ∙ r.1)))
-
 -- and what holds of places then holds of numbers
-pub at_more : (arena : List BareNode) (f g : Frames) (t : List Entry) (x : Entry) (p n : ℕ) → (s : IsAt arena f t) → Part (tree arena) (t ++ x ∷ []) → IsPlaceOf arena s.entries n p → number_of x ≡ Some n → IsHeld arena g.frames.items g.set.all (s.entries ++ entry_at p x ∷ []) → IsTable arena g.table.rows.items → length g.set.classes ≡ length arena → IsAt arena g (t ++ x ∷ [])
-at_more arena f g t x p n s q h k held table classed =
+pub at_more : (arena : List BareNode) (f g : Frames) (t : List Entry) (x : Entry) (p n : ℕ) → (s : IsAt arena f t) → Part (tree arena) (t ++ x ∷ []) → IsPlaceOf arena s.entries n p → number_of x ≡ Some n → IsHeld arena g.frames.cells g.set.all (s.entries ++ entry_at p x ∷ []) → g.frames.rooms ≡ rooms_of arena → IsTable arena g.table.rows.items → length g.set.classes ≡ length arena → IsAt arena g (t ++ x ∷ [])
+at_more arena f g t x p n s q h k held rooms table classed =
     let back : entry_renamed (number_at arena) (entry_at p x) ≡ x = entry_back (number_at arena) p n x h.is_number k in
     record {
       so_far = q;
       entries = s.entries ++ entry_at p x ∷ [];
       same = map_more (number_at arena) s.entries (entry_at p x) ∙ (ap (λ (l : List Entry). l ++ entry_renamed (number_at arena) (entry_at p x) ∷ []) s.same ∙ ap (λ (y : Entry). t ++ y ∷ []) back);
       held = held;
+      rooms = rooms;
       table = table;
       classed = classed;
     }
@@ -277,14 +242,15 @@ at_same arena f g t s frames table all classed = record {
   so_far = s.so_far;
   entries = s.entries;
   same = s.same;
-  held = subst (λ (w : List ℕ). IsHeld arena g.frames.items w s.entries) (sym all) (subst (λ (v : Vec Frame). IsHeld arena v.items f.set.all s.entries) (sym frames) s.held);
+  held = subst (λ (w : List ℕ). IsHeld arena g.frames.cells w s.entries) (sym all) (subst (λ (v : NodeCells). IsHeld arena v.cells f.set.all s.entries) (sym frames) s.held);
+  rooms = ap (λ (v : NodeCells). v.rooms) frames ∙ s.rooms;
   table = subst (λ (w : Table). IsTable arena w.rows.items) (sym table) s.table;
   classed = classed;
 }
 
 -- frames of the whole tree, opened
-pub at_first : (arena : List BareNode) (old : List Frame) (before : List ℕ) (g : Frames) → length old ≡ length arena → ((q : ℕ) → holds before q ≡ false) → IsEntered arena old g.frames.items before g.set.all (placed arena) → IsTable arena g.table.rows.items → length g.set.classes ≡ length arena → IsAt arena g []
-at_first arena old before g l none opened table classed = record {
+pub at_first : (arena : List BareNode) (old : List Cell) (before : List ℕ) (g : Frames) → length old ≡ length arena → ((q : ℕ) → holds before q ≡ false) → IsEntered arena old g.frames.cells before g.set.all (placed arena) → g.frames.rooms ≡ rooms_of arena → IsTable arena g.table.rows.items → length g.set.classes ≡ length arena → IsAt arena g []
+at_first arena old before g l none opened rooms table classed = record {
   so_far = part_nil (tree arena);
   entries = [];
   same = refl;
@@ -295,6 +261,7 @@ at_first arena old before g l none opened table classed = record {
     room = opened.long ∙ l;
     goes_on = λ q. opened.came q ∙ ap (λ (b : Bool). b || has (next (placed arena) []) q) (none q);
   };
+  rooms = rooms;
   table = table;
   classed = classed;
 }

@@ -13,7 +13,7 @@ use Rattle.trace_law.specs.Own.{pick_of}
 use Rattle.trace_law.specs.Step.{IsNewPick, IsTest}
 use Rattle.trace_law.specs.Cells.{Cell, Cutting, Over, next_by}
 use Rattle.trace_law.specs.Coming.{Changes}
-use Rattle.trace_law.specs.Offer.{Offer, Picks, IsOffered}
+use Rattle.trace_law.specs.Offer.{Offer, IsOffered}
 use Rattle.run_log.specs.declared.entry.Entry.{Entry}
 use Rattle.run_log.specs.declared.entry.Entry.TheVariants.{Dispatch, Block, End, Pick, Test, Assign, Set, Pass, Note, Edit}
 use Rattle.frame_law.specs.Executable.{element}
@@ -26,11 +26,10 @@ use Rattle.tree_table.specs.Table.{IsElement, IsTable}
 use Rattle.tree_table.specs.declared.row.Row.{Row}
 use Rattle.tree_table.proofs.ListLemmas.{has_at}
 use Rattle.tree_table.proofs.PlacedLemmas.{down_node}
-use Rattle.run_frames.specs.declared.frame.Frame.{Frame}
-use Rattle.run_frames.specs.Frames.{told, cells_of}
-use Rattle.run_frames.specs.Entries.{cut, ends, answer_in}
+use Rattle.run_frames.specs.Frames.{cells_of}
+use Rattle.run_frames.specs.Entries.{cut, ends, answer_in, index_in}
 use Rattle.run_frames.specs.Renaming.{entry_at}
-use Rattle.run_frames.specs.OfferAt.{offer_at, offer_there, IsInOrder}
+use Rattle.run_frames.specs.OfferAt.{offer_at, offer_there}
 use Rattle.run_frames.specs.Entered.{IsNode, ComeInFor}
 use Rattle.run_frames.specs.Held.{IsLeafKind, IsStep}
 use Rattle.run_frames.proofs.RenamingLemmas.{same_number}
@@ -41,7 +40,7 @@ no_true h = (let w : false ≡ true = h in cc)
 
 -- ---- the node of an entry
 
-pub follows : (arena : List BareNode) (frames : List Frame) (set : List ℕ) (t : List Entry) (p : ℕ) (x : Entry) → AreDistinct (nodes (placed arena)) → IsStep arena frames set t p x → Follows (cells_of frames) (placed arena) t (entry_at p x) p
+pub follows : (arena : List BareNode) (frames : List Cell) (set : List ℕ) (t : List Entry) (p : ℕ) (x : Entry) → AreDistinct (nodes (placed arena)) → IsStep arena frames set t p x → Follows (cells_of frames) (placed arena) t (entry_at p x) p
 follows arena frames set t p x d s = record { distinct = d; part = s.part; stands = s.held.stands; number = s.number }
 
 some_levels : (arena : List BareNode) (c : ℕ → Cell) (levels p : ℕ) → has (next_by c (placed_down arena levels p)) p ≡ true → 0 < levels
@@ -50,7 +49,7 @@ some_levels arena c zero p h = absurd (no_true h)
 some_levels arena c (suc levels) p h = omega arith
 
 -- it is found in the tree, as its kind says
-pub found_is : (arena : List BareNode) (rows : List Row) (frames : List Frame) (set : List ℕ) (t : List Entry) (p : ℕ) (x : Entry) (k : Kind) (elements : List ℕ) → IsTable arena rows → AreDistinct (nodes (placed arena)) → IsStep arena frames set t p x → (n : IsNode arena p k elements)
+pub found_is : (arena : List BareNode) (rows : List Row) (frames : List Cell) (set : List ℕ) (t : List Entry) (p : ℕ) (x : Entry) (k : Kind) (elements : List ℕ) → IsTable arena rows → AreDistinct (nodes (placed arena)) → IsStep arena frames set t p x → (n : IsNode arena p k elements)
     → tree.executable_at (placed arena) p ≡ of_kind k (place_for k n.node.number p) (placed_all arena (levels_at rows p - 1) elements)
 found_is arena rows frames set t p x k elements table d s n =
     let c = cells_of frames in
@@ -62,13 +61,13 @@ found_is arena rows frames set t p x k elements table d s n =
     ∙ (ap (λ (j : Kind). of_kind j (place_for j n.node.number p) (placed_all arena (levels_at rows p - 1) n.node.elements)) n.kind_is
     ∙ ap (λ (qs : List ℕ). of_kind k (place_for k n.node.number p) (placed_all arena (levels_at rows p - 1) qs)) n.elements_are))
 
-pub offer_is : (arena : List BareNode) (frames : List Frame) (set : List ℕ) (t : List Entry) (p : ℕ) (x : Entry) (k : Kind) (elements : List ℕ) → IsStep arena frames set t p x → IsNode arena p k elements
-    → IsOffered (offer_at k (cells_of frames p) (length elements)) p (entry_at p x) × IsInOrder (offer_at k (cells_of frames p) (length elements)) x
+pub offer_is : (arena : List BareNode) (frames : List Cell) (set : List ℕ) (t : List Entry) (p : ℕ) (x : Entry) (k : Kind) (elements : List ℕ) → IsStep arena frames set t p x → IsNode arena p k elements
+    → IsOffered (offer_at k (cells_of frames p) (length elements)) p (entry_at p x)
 offer_is arena frames set t p x k elements s n =
     let is : offer_there (slice_get arena p) (cells_of frames p) ≡ offer_at k (cells_of frames p) (length elements) =
     ap (λ (o : Option BareNode). offer_there o (cells_of frames p)) n.at
     ∙ (ap (λ (j : Kind). offer_at j (cells_of frames p) (length n.node.elements)) n.kind_is ∙ ap (λ (qs : List ℕ). offer_at k (cells_of frames p) (length qs)) n.elements_are) in
-    (subst (λ (o : Offer). IsOffered o p (entry_at p x)) is s.offered, subst (λ (o : Offer). IsInOrder o x) is s.in_order)
+    subst (λ (o : Offer). IsOffered o p (entry_at p x)) is s.offered
 
 pub leaf_is : (k : Kind) (n : Option ℕ) (p : ℕ) (es : List Exec) → IsLeafKind k → (l : LeafKind) × (of_kind k (place_for k n p) es ≡ Leaf p l)
 leaf_is kind.Plan n p es h = absurd h
@@ -86,10 +85,10 @@ leaf_is kind.Note n p es h = (Noting, refl)
 pub leaf_picks_not : (k : Kind) → IsLeafKind k → k ≡ kind.NonSeq → ⊥
 leaf_picks_not k h e = subst IsLeafKind e h
 
-pub step_within : (arena : List BareNode) (frames : List Frame) (set : List ℕ) (t : List Entry) (p : ℕ) (x : Entry) (k : Kind) (elements : List ℕ) → IsStep arena frames set t p x → IsNode arena p k elements → p < length frames
+pub step_within : (arena : List BareNode) (frames : List Cell) (set : List ℕ) (t : List Entry) (p : ℕ) (x : Entry) (k : Kind) (elements : List ℕ) → IsStep arena frames set t p x → IsNode arena p k elements → p < length frames
 step_within arena frames set t p x k elements s n = subst (λ (m : ℕ). p < m) (sym s.held.room) (slice_get_within arena p n.node n.at)
 
-pub step_there : (arena : List BareNode) (frames : List Frame) (set : List ℕ) (t : List Entry) (p : ℕ) (x : Entry) → IsStep arena frames set t p x → holds set p ≡ true
+pub step_there : (arena : List BareNode) (frames : List Cell) (set : List ℕ) (t : List Entry) (p : ℕ) (x : Entry) → IsStep arena frames set t p x → holds set p ≡ true
 step_there arena frames set t p x s = s.held.goes_on p ∙ s.is_next
 
 -- ---- its elements
@@ -129,7 +128,7 @@ is_element arena p k elements i n l = (n.node, n.at, subst (λ (qs : List ℕ). 
 
 -- ---- the entry
 
-pub cut_on : (x : Entry) (p : ℕ) → ends x ≡ false → (k : ℕ) × (blocks_after (entry_at p x) ≡ Some k) × (told (cut x) ≡ Cutting (Some k))
+pub cut_on : (x : Entry) (p : ℕ) → ends x ≡ false → (k : ℕ) × (blocks_after (entry_at p x) ≡ Some k) × ((cut x) ≡ Cutting (Some k))
 cut_on (Dispatch n v) p h = (0, refl, refl)
 cut_on (Block n k b) p h = (k + 1, refl, refl)
 cut_on (End n) p h = absurd (no_true (sym h))
@@ -141,7 +140,7 @@ cut_on (Pass n) p h = absurd (no_true (sym h))
 cut_on (Note n) p h = absurd (no_true (sym h))
 cut_on (Edit i v) p h = absurd (no_true (sym h))
 
-pub cut_over : (x : Entry) (p : ℕ) → ends x ≡ true → (blocks_after (entry_at p x) ≡ None) × (told (cut x) ≡ Over)
+pub cut_over : (x : Entry) (p : ℕ) → ends x ≡ true → (blocks_after (entry_at p x) ≡ None) × ((cut x) ≡ Over)
 cut_over (Dispatch n v) p h = absurd (no_true h)
 cut_over (Block n k b) p h = absurd (no_true h)
 cut_over (End n) p h = (refl, refl)
@@ -156,21 +155,21 @@ cut_over (Edit i v) p h = (refl, refl)
 own_test : (n : ℕ) → (n == n) ≡ true
 own_test n = grind (arith, nat_tests)
 
--- an entry that picks the next of so many
-pub pick_is : (p total : ℕ) (ks : List ℕ) (x : Entry) → IsNewPick p total ks (entry_at p x) → IsInOrder (Picks total ks) x → (entry_at p x ≡ Pick p (length ks)) × (length ks < total)
-pick_is p total ks (Pick n k) h o =
+-- an entry that picks one of so many that is left
+pub pick_is : (p total : ℕ) (ks : List ℕ) (x : Entry) → IsNewPick p total ks (entry_at p x) → (entry_at p x ≡ Pick p (index_in x)) × (index_in x < total) × (has ks (index_in x) ≡ false)
+pick_is p total ks (Pick n k) h =
     let e : pick_of p (Pick p k) ≡ Some k = (let t = own_test p in rw t refl) in
     let r = subst (λ (w : Option ℕ). IsSomeAnd w (λ j. (j < total) × (has ks j ≡ false))) e h in
-    (ap (λ (j : ℕ). Pick p j) o, subst (λ (j : ℕ). j < total) o r.0)
-pick_is p total ks (Dispatch n v) h o = absurd h
-pick_is p total ks (Block n k b) h o = absurd h
-pick_is p total ks (End n) h o = absurd h
-pick_is p total ks (Test n b) h o = absurd h
-pick_is p total ks (Assign n y) h o = absurd h
-pick_is p total ks (Set n) h o = absurd h
-pick_is p total ks (Pass n) h o = absurd h
-pick_is p total ks (Note n) h o = absurd h
-pick_is p total ks (Edit i v) h o = absurd h
+    (refl, r.0, r.1)
+pick_is p total ks (Dispatch n v) h = absurd h
+pick_is p total ks (Block n k b) h = absurd h
+pick_is p total ks (End n) h = absurd h
+pick_is p total ks (Test n b) h = absurd h
+pick_is p total ks (Assign n y) h = absurd h
+pick_is p total ks (Set n) h = absurd h
+pick_is p total ks (Pass n) h = absurd h
+pick_is p total ks (Note n) h = absurd h
+pick_is p total ks (Edit i v) h = absurd h
 
 pub test_is : (p : ℕ) (x : Entry) → IsTest p (entry_at p x) → entry_at p x ≡ Test p (answer_in x)
 test_is p (Test n b) h = refl

@@ -10,9 +10,7 @@ use Rattle.exec_tree.specs.declared.node.BareNode.{BareNode}
 use Rattle.trace_law.specs.Cells.{Cell, Picked}
 use Rattle.frame_law.specs.Way.{AreUnpicked, AreUnpickedAll}
 use Rattle.tree_table.specs.Placed.{place_for, placed_node, placed_down}
-use Rattle.run_frames.specs.declared.frame.Frame.{Frame}
-use Rattle.run_frames.specs.declared.frame.Frame.TheVariants.{PickedFirst}
-use Rattle.run_frames.specs.Frames.{told, frame_at, cells_of}
+use Rattle.run_frames.specs.Frames.{cells_of}
 use Rattle.run_frames.specs.Entered.{AreUnpickedIn}
 use Rattle.run_frames.proofs.RenamingLemmas.{same_number}
 use Rattle.run_frames.proofs.WriteLemmas.{frame_set, frame_other}
@@ -47,7 +45,7 @@ none_mapped : (f : ℕ → Exec) (ps : List ℕ) → map f ps ≡ [] → ps ≡ 
 none_mapped f [] h = refl
 none_mapped f (p ∷ ps) h = absurd (let w : f p ∷ map f ps ≡ [] = h in cc)
 
-pub unpicked_down : (arena : List BareNode) (frames : List Frame) (levels p : ℕ) → AreUnpickedIn arena frames → AreUnpicked (cells_of frames) (placed_down arena levels p)
+pub unpicked_down : (arena : List BareNode) (frames : List Cell) (levels p : ℕ) → AreUnpickedIn arena frames → AreUnpicked (cells_of frames) (placed_down arena levels p)
 unfolding placed_down
 unpicked_down arena frames zero p u = tt
 unpicked_down arena frames (suc levels) p u = go (slice_get arena p) refl (λ r. unpicked_down arena frames levels r u)
@@ -56,7 +54,7 @@ unpicked_down arena frames (suc levels) p u = go (slice_get arena p) refl (λ r.
     go None e rec = tt
     go (Some node) e rec =
         kind_unpicked (cells_of frames) node.kind node.number p (map (λ r. placed_down arena levels r) node.elements)
-        (λ k none. ap told (u p node e k (none_mapped (λ r. placed_down arena levels r) node.elements none))) (all_unpicked (cells_of frames) (λ r. placed_down arena levels r) node.elements rec)
+        (λ k none. (u p node e k (none_mapped (λ r. placed_down arena levels r) node.elements none))) (all_unpicked (cells_of frames) (λ r. placed_down arena levels r) node.elements rec)
 
 some_node : (a b : BareNode) → Some a ≡ Some b → a ≡ b
 some_node a b e = cc
@@ -65,13 +63,13 @@ differ : (a b : ℕ) → a ≡ b → (a == b) ≡ false → ⊥
 differ a b h e = (let w : (a == b) ≡ true = grind (arith, nat_tests) in let z : true ≡ false = sym w ∙ e in cc)
 
 -- a frame that is written keeps that, where it says so of such a node
-pub set_unpicked : (arena : List BareNode) (frames : List Frame) (p : ℕ) (f : Frame) (node : BareNode) → p < length frames → slice_get arena p ≡ Some node → (node.kind ≡ kind.NonSeq → node.elements ≡ [] → f ≡ PickedFirst 0) → AreUnpickedIn arena frames → AreUnpickedIn arena (slice_set frames p f)
+pub set_unpicked : (arena : List BareNode) (frames : List Cell) (p : ℕ) (f : Cell) (node : BareNode) → p < length frames → slice_get arena p ≡ Some node → (node.kind ≡ kind.NonSeq → node.elements ≡ [] → f ≡ Picked []) → AreUnpickedIn arena frames → AreUnpickedIn arena (slice_set frames p f)
 set_unpicked arena frames p f node l at own u = λ q other there k none. go q other there k none (p == q) refl
   where
-    go : (q : ℕ) (other : BareNode) → slice_get arena q ≡ Some other → other.kind ≡ kind.NonSeq → other.elements ≡ [] → (b : Bool) → (p == q) ≡ b → frame_at (slice_set frames p f) q ≡ PickedFirst 0
+    go : (q : ℕ) (other : BareNode) → slice_get arena q ≡ Some other → other.kind ≡ kind.NonSeq → other.elements ≡ [] → (b : Bool) → (p == q) ≡ b → cells_of (slice_set frames p f) q ≡ Picked []
     go q other there k none true e =
         let same : p ≡ q = same_number p q e in
         let is : other ≡ node = some_node other node (sym there ∙ (ap (slice_get arena) (sym same) ∙ at)) in
-        subst (λ (r : ℕ). frame_at (slice_set frames p f) r ≡ PickedFirst 0) same
+        subst (λ (r : ℕ). cells_of (slice_set frames p f) r ≡ Picked []) same
         (frame_set frames p f l ∙ own (ap (λ (w : BareNode). w.kind) (sym is) ∙ k) (ap (λ (w : BareNode). w.elements) (sym is) ∙ none))
     go q other there k none false e = frame_other frames p q f (λ h. differ p q h e) ∙ u q other there k none

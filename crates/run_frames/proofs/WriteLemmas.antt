@@ -2,42 +2,39 @@
 use Rattle.std.specs.Prelude.{◌≡◌, ◌<◌, ◌+◌, ◌==◌, ◌||◌, ℕ, zero, suc, Bool, true, false, List, [], ◌∷◌, ◌++◌, length, take, drop, slice_get, slice_set, unwrap_or, Option, Some}
 use Rattle.std.proofs.Common.{refl, sym, ◌∙◌, ap, subst, arith, get_or}
 use Rattle.std.proofs.lemmas.Bool.Decides.{nat_tests}
-use Rattle.std.specs.Global.{Vec}
-use Rattle.std.specs.Vec.{with_items}
 use Rattle.exec_tree.specs.Exec.{has, AreDistinct, nodes, nodes_all}
 use Rattle.exec_tree.specs.Arena.{to_execs}
 use Rattle.exec_tree.specs.declared.node.BareNode.{BareNode}
-use Rattle.run_frames.specs.declared.frame.Frame.{Frame}
-use Rattle.run_frames.specs.declared.frame.Frame.TheVariants.{Over}
-use Rattle.run_frames.specs.Frames.{frame_at, AreKeptBut}
+use Rattle.run_frames.specs.Frames.{cells_of, AreKeptBut}
 use Rattle.tree_table.specs.Placed.{placed_down, placed_all}
 use Rattle.run_frames.proofs.RenamingLemmas.{same_number}
 use Rattle.run_frames.proofs.KeepLemmas.{AreAlike, has_left, has_right, has_self, has_rest}
+use Rattle.trace_law.specs.Cells.{Cell, Over}
 
 -- ---- one frame written
 
-pub get_set : (frames : List Frame) (p : ℕ) (f : Frame) → p < length frames → slice_get (slice_set frames p f) p ≡ Some f
+pub get_set : (frames : List Cell) (p : ℕ) (f : Cell) → p < length frames → slice_get (slice_set frames p f) p ≡ Some f
 get_set [] p f h = absurd (omega arith)
 get_set (x ∷ frames) zero f h = refl
 get_set (x ∷ frames) (suc p) f h = get_set frames p f (omega arith)
 
-pub get_other : (frames : List Frame) (p r : ℕ) (f : Frame) → (p ≡ r → ⊥) → slice_get (slice_set frames p f) r ≡ slice_get frames r
+pub get_other : (frames : List Cell) (p r : ℕ) (f : Cell) → (p ≡ r → ⊥) → slice_get (slice_set frames p f) r ≡ slice_get frames r
 get_other [] p r f h = refl
 get_other (x ∷ frames) zero zero f h = absurd (h refl)
 get_other (x ∷ frames) zero (suc r) f h = refl
 get_other (x ∷ frames) (suc p) zero f h = refl
 get_other (x ∷ frames) (suc p) (suc r) f h = get_other frames p r f (λ e. h (ap suc e))
 
-pub length_set : (frames : List Frame) (p : ℕ) (f : Frame) → length (slice_set frames p f) ≡ length frames
+pub length_set : (frames : List Cell) (p : ℕ) (f : Cell) → length (slice_set frames p f) ≡ length frames
 length_set [] p f = refl
 length_set (x ∷ frames) zero f = refl
 length_set (x ∷ frames) (suc p) f = ap suc (length_set frames p f)
 
-pub frame_set : (frames : List Frame) (p : ℕ) (f : Frame) → p < length frames → frame_at (slice_set frames p f) p ≡ f
-frame_set frames p f h = ap (λ (o : Option Frame). unwrap_or o Over) (get_set frames p f h)
+pub frame_set : (frames : List Cell) (p : ℕ) (f : Cell) → p < length frames → cells_of (slice_set frames p f) p ≡ f
+frame_set frames p f h = ap (λ (o : Option Cell). unwrap_or o Over) (get_set frames p f h)
 
-pub frame_other : (frames : List Frame) (p r : ℕ) (f : Frame) → (p ≡ r → ⊥) → frame_at (slice_set frames p f) r ≡ frame_at frames r
-frame_other frames p r f h = ap (λ (o : Option Frame). unwrap_or o Over) (get_other frames p r f h)
+pub frame_other : (frames : List Cell) (p r : ℕ) (f : Cell) → (p ≡ r → ⊥) → cells_of (slice_set frames p f) r ≡ cells_of frames r
+frame_other frames p r f h = ap (λ (o : Option Cell). unwrap_or o Over) (get_other frames p r f h)
 
 pub clash : (b : Bool) → b ≡ true → b ≡ false → ⊥
 clash b h g = let w : true ≡ false = sym h ∙ g in cc
@@ -56,15 +53,15 @@ not_rest n ns q h = go (has ns q) refl
     go false e = e
 
 -- only the frame that is written changes
-pub set_keeps : (frames : List Frame) (p : ℕ) (f : Frame) (ns : List ℕ) → AreKeptBut frames (slice_set frames p f) (p ∷ ns)
+pub set_keeps : (frames : List Cell) (p : ℕ) (f : Cell) (ns : List ℕ) → AreKeptBut frames (slice_set frames p f) (p ∷ ns)
 set_keeps frames p f ns q h = frame_other frames p q f (not_own p ns q h)
 
-pub set_alike : (frames : List Frame) (p : ℕ) (f : Frame) (ns : List ℕ) → has ns p ≡ false → AreAlike frames (slice_set frames p f) ns
+pub set_alike : (frames : List Cell) (p : ℕ) (f : Cell) (ns : List ℕ) → has ns p ≡ false → AreAlike frames (slice_set frames p f) ns
 set_alike frames p f ns out q i = frame_other frames p q f (λ e. clash (has ns p) (subst (λ (m : ℕ). has ns m ≡ true) (sym e) i) out)
 
 -- ---- what is kept but some
 
-pub but_none : (f : List Frame) (ns : List ℕ) → AreKeptBut f f ns
+pub but_none : (f : List Cell) (ns : List ℕ) → AreKeptBut f f ns
 but_none f ns q h = refl
 
 not_left : (ms ns : List ℕ) (q : ℕ) → has (ms ++ ns) q ≡ false → has ms q ≡ false
@@ -81,20 +78,20 @@ not_right ms ns q h = go (has ns q) refl
     go true e = absurd (clash (has (ms ++ ns) q) (has_right ms ns q e) h)
     go false e = e
 
-pub but_left : (f g : List Frame) (ms ns : List ℕ) → AreKeptBut f g ms → AreKeptBut f g (ms ++ ns)
+pub but_left : (f g : List Cell) (ms ns : List ℕ) → AreKeptBut f g ms → AreKeptBut f g (ms ++ ns)
 but_left f g ms ns k q h = k q (not_left ms ns q h)
 
-pub but_right : (f g : List Frame) (ms ns : List ℕ) → AreKeptBut f g ns → AreKeptBut f g (ms ++ ns)
+pub but_right : (f g : List Cell) (ms ns : List ℕ) → AreKeptBut f g ns → AreKeptBut f g (ms ++ ns)
 but_right f g ms ns k q h = k q (not_right ms ns q h)
 
-pub but_rest : (f g : List Frame) (n : ℕ) (ns : List ℕ) → AreKeptBut f g ns → AreKeptBut f g (n ∷ ns)
+pub but_rest : (f g : List Cell) (n : ℕ) (ns : List ℕ) → AreKeptBut f g ns → AreKeptBut f g (n ∷ ns)
 but_rest f g n ns k q h = k q (not_rest n ns q h)
 
-pub but_both : (f g h : List Frame) (ns : List ℕ) → AreKeptBut f g ns → AreKeptBut g h ns → AreKeptBut f h ns
+pub but_both : (f g h : List Cell) (ns : List ℕ) → AreKeptBut f g ns → AreKeptBut g h ns → AreKeptBut f h ns
 but_both f g h ns k l q o = l q o ∙ k q o
 
 -- what is kept but some is alike on the others
-pub but_alike : (f g : List Frame) (ms ns : List ℕ) → AreKeptBut f g ns → ((q : ℕ) → has ms q ≡ true → has ns q ≡ false) → AreAlike f g ms
+pub but_alike : (f g : List Cell) (ms ns : List ℕ) → AreKeptBut f g ns → ((q : ℕ) → has ms q ≡ true → has ns q ≡ false) → AreAlike f g ms
 but_alike f g ms ns k apart q i = k q (apart q i)
 
 -- ---- numbers that stand once
@@ -149,27 +146,3 @@ pub take_length : (l : List ℕ) (i : ℕ) → i < length l → length (take i l
 take_length [] i h = absurd (omega (arith, h))
 take_length (x ∷ l) zero h = refl
 take_length (x ∷ l) (suc i) h = ap suc (take_length l i (omega (arith, h)))
-
--- ---- frames written through a slice
-
-whole_frames : (n : ℕ) (l : List Frame) → length l ≡ n → take n l ≡ l
-whole_frames zero [] h = refl
-whole_frames (suc n) [] h = refl
-whole_frames zero (x ∷ l) h = absurd (omega (arith, h))
-whole_frames (suc n) (x ∷ l) h = ap (λ (w : List Frame). x ∷ w) (whole_frames n l (omega (arith, h)))
-
-nothing_behind : (n : ℕ) (l : List Frame) → length l ≡ n → drop n l ≡ []
-nothing_behind zero [] h = refl
-nothing_behind (suc n) [] h = refl
-nothing_behind zero (x ∷ l) h = absurd (omega (arith, h))
-nothing_behind (suc n) (x ∷ l) h = nothing_behind n l (omega (arith, h))
-
-append_nothing : (l : List Frame) → l ++ [] ≡ l
-append_nothing [] = refl
-append_nothing (x ∷ l) = ap (λ (w : List Frame). x ∷ w) (append_nothing l)
-
--- as many as there were stand in their place
-pub refilled : (v : Vec Frame) (ws : List Frame) → length ws ≡ length v.items → (with_items v ws).items ≡ ws
-refilled v ws h =
-    let long : length ws ≡ v.len = h ∙ sym v.ok.0 in
-    ap (λ (l : List Frame). take v.len (ws ++ l)) (nothing_behind (length ws) v.items (sym h)) ∙ (ap (take v.len) (append_nothing ws) ∙ whole_frames v.len ws long)

@@ -1,23 +1,20 @@
--- What the code's word for what a node does next means, where picks are made in order.
-use Rattle.std.specs.Prelude.{ℕ, zero, suc, List, [], ◌∷◌, ◌++◌}
+-- What the code's word for what a node does next means.
+use Rattle.std.specs.Prelude.{◌≡◌, ℕ}
 use Rattle.exec_tree.specs.Exec.{Assigning, Setting, Waiting, Noting}
+use Rattle.pick_set.specs.Picks.{IsLeastLeft}
 use Rattle.trace_law.specs.Offer.{Offer}
 use Rattle.trace_law.specs.Offer as offers
 use Rattle.run_frames.specs.declared.deed.Deed.{Deed}
 use Rattle.run_frames.specs.declared.deed.Deed.TheVariants as deeds
 
--- the first so many indices
-abbrev pub upto : ℕ → List ℕ
-upto zero = []
-upto (suc k) = upto k ++ k ∷ []
-
--- the offer of a deed
-abbrev pub deed_offer : Deed → Offer
-deed_offer deeds.Starts = offers.Starts
-deed_offer (deeds.Cuts k) = offers.Cuts k
-deed_offer deeds.Assigns = offers.Does Assigning
-deed_offer deeds.Sets = offers.Does Setting
-deed_offer deeds.Passes = offers.Does Waiting
-deed_offer deeds.Notes = offers.Does Noting
-deed_offer (deeds.Picks count picked) = offers.Picks count (upto picked)
-deed_offer deeds.Tests = offers.Tests
+-- the deed is what is offered; of so many elements the next is the least that is left, and each offer has one deed
+abbrev pub IsDeed : Offer → Deed → Type 0
+IsDeed offers.Starts d = d ≡ deeds.Starts
+IsDeed (offers.Cuts k) d = d ≡ deeds.Cuts k
+IsDeed (offers.Does Assigning) d = d ≡ deeds.Assigns
+IsDeed (offers.Does Setting) d = d ≡ deeds.Sets
+IsDeed (offers.Does Waiting) d = d ≡ deeds.Passes
+IsDeed (offers.Does Noting) d = d ≡ deeds.Notes
+IsDeed (offers.Picks count ks) d = (k : ℕ) × (d ≡ deeds.Picks count k) × IsLeastLeft count ks k
+IsDeed offers.Tests d = d ≡ deeds.Tests
+IsDeed offers.Nothing d = ⊥

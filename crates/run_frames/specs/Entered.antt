@@ -7,13 +7,12 @@ use Rattle.exec_tree.specs.declared.node.BareNode.{BareNode}
 use Rattle.place_set.specs.Words.{holds}
 use Rattle.trace_law.specs.Next.{next, next_each}
 use Rattle.trace_law.specs.Frames.{Stands, StandsEach, going}
-use Rattle.run_frames.specs.declared.frame.Frame.{Frame}
-use Rattle.run_frames.specs.declared.frame.Frame.TheVariants.{PickedFirst}
-use Rattle.run_frames.specs.Frames.{frame_at, cells_of, AreKeptBut}
+use Rattle.run_frames.specs.Frames.{cells_of, AreKeptBut}
+use Rattle.trace_law.specs.Cells.{Cell, Picked}
 
 -- each non-sequential without elements has no picks
-abbrev pub AreUnpickedIn : List BareNode → List Frame → Type 0
-AreUnpickedIn arena frames = (p : ℕ) (node : BareNode) → slice_get arena p ≡ Some node → node.kind ≡ kind.NonSeq → node.elements ≡ [] → frame_at frames p ≡ PickedFirst 0
+abbrev pub AreUnpickedIn : List BareNode → List Cell → Type 0
+AreUnpickedIn arena frames = (p : ℕ) (node : BareNode) → slice_get arena p ≡ Some node → node.kind ≡ kind.NonSeq → node.elements ≡ [] → cells_of frames p ≡ Picked []
 
 -- the node at a place is of this kind, and has these elements
 pub record IsNode (arena : List BareNode) (p : ℕ) (k : Kind) (elements : List ℕ) : Type 0 where
@@ -31,7 +30,7 @@ abbrev pub ComeInFor : List ℕ → List ℕ → ℕ → List ℕ → Type 0
 ComeInFor before after p ns = (q : ℕ) → holds after q ≡ ((holds before q && not (q == p)) || has ns q)
 
 -- the frames of f stand for no entry, no other has changed, and the places where f can go on have come in
-pub record IsEntered (arena : List BareNode) (old new : List Frame) (before after : List ℕ) (f : Exec) : Type 0 where
+pub record IsEntered (arena : List BareNode) (old new : List Cell) (before after : List ℕ) (f : Exec) : Type 0 where
   pub stands : Stands (cells_of new) f []
   pub kept : AreKeptBut old new (nodes f)
   pub unpicked : AreUnpickedIn arena new
@@ -39,7 +38,7 @@ pub record IsEntered (arena : List BareNode) (old new : List Frame) (before afte
   pub came : ComeIn before after (next f [])
 
 -- the same of all these elements, of which so many go on
-pub record AreEntered (arena : List BareNode) (old new : List Frame) (before after : List ℕ) (es : Execs) (number : ℕ) : Type 0 where
+pub record AreEntered (arena : List BareNode) (old new : List Cell) (before after : List ℕ) (es : Execs) (number : ℕ) : Type 0 where
   pub stands : StandsEach (cells_of new) es []
   pub counted : number ≡ going es []
   pub kept : AreKeptBut old new (nodes_all es)

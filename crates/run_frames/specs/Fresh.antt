@@ -1,14 +1,14 @@
 -- What stands at an executable before any entry.
+use Rattle.std.specs.Prelude.{[], None}
 use Rattle.exec_tree.specs.declared.kind.Kind.{Kind}
 use Rattle.exec_tree.specs.declared.kind.Kind.TheVariants as kind
-use Rattle.run_frames.specs.declared.frame.Frame.{Frame}
-use Rattle.run_frames.specs.declared.frame.Frame.TheVariants.{Starts, PickedFirst, Asks, Fresh}
+use Rattle.trace_law.specs.Cells.{Cell, Cutting, Going, Picked, AnsweredBy}
 
--- the frame of an executable that is no workplan and no parallel, before any entry
-abbrev pub fresh : Kind → Frame
-fresh kind.Work = Starts
-fresh kind.NonSeq = PickedFirst 0
-fresh kind.Sel = PickedFirst 0
-fresh kind.If = Asks
-fresh kind.While = Asks
-fresh _ = Fresh
+-- the cell of an executable that is no workplan and no parallel, before any entry
+abbrev pub fresh : Kind → Cell
+fresh kind.Work = Cutting None
+fresh kind.NonSeq = Picked []
+fresh kind.Sel = Picked []
+fresh kind.If = AnsweredBy None
+fresh kind.While = AnsweredBy None
+fresh _ = Going

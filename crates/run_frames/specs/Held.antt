@@ -14,14 +14,14 @@ use Rattle.frame_law.specs.Onward.{Done, onward, brings}
 use Rattle.frame_law.specs.Way.{IsGone}
 use Rattle.tree_table.specs.Placed.{placed}
 use Rattle.run_log.specs.declared.entry.Entry.{Entry}
-use Rattle.run_frames.specs.declared.frame.Frame.{Frame}
 use Rattle.run_frames.specs.Frames.{cells_of, AreKeptBut}
 use Rattle.run_frames.specs.Renaming.{entry_at}
-use Rattle.run_frames.specs.OfferAt.{offer_there, IsInOrder}
+use Rattle.run_frames.specs.OfferAt.{offer_there}
 use Rattle.run_frames.specs.Entered.{AreUnpickedIn, ComeInFor}
+use Rattle.trace_law.specs.Cells.{Cell}
 
 -- the frames stand for t, a run of the tree so far, and the set has the places where it can go on
-pub record IsHeld (arena : List BareNode) (frames : List Frame) (set : List ℕ) (t : List Entry) : Type 0 where
+pub record IsHeld (arena : List BareNode) (frames : List Cell) (set : List ℕ) (t : List Entry) : Type 0 where
   pub part : Part (placed arena) t
   pub stands : Stands (cells_of frames) (placed arena) t
   pub unpicked : AreUnpickedIn arena frames
@@ -29,14 +29,13 @@ pub record IsHeld (arena : List BareNode) (frames : List Frame) (set : List ℕ)
   pub goes_on : (q : ℕ) → holds set q ≡ has (next (placed arena) t) q
 
 -- so they do, and the entry, as one of the node at place p, is what that node does next
-pub record IsStep (arena : List BareNode) (frames : List Frame) (set : List ℕ) (t : List Entry) (p : ℕ) (x : Entry) : Type 0 where
+pub record IsStep (arena : List BareNode) (frames : List Cell) (set : List ℕ) (t : List Entry) (p : ℕ) (x : Entry) : Type 0 where
   pub held : IsHeld arena frames set t
   pub part : Part (placed arena) (t ++ entry_at p x ∷ [])
   pub number : number_of (entry_at p x) ≡ Some p
   pub inside : has (nodes (placed arena)) p ≡ true
   pub is_next : has (next (placed arena) t) p ≡ true
   pub offered : IsOffered (offer_there (slice_get arena p) (cells_of frames p)) p (entry_at p x)
-  pub in_order : IsInOrder (offer_there (slice_get arena p) (cells_of frames p)) x
 
 -- the kinds of leaves
 abbrev pub IsLeafKind : Kind → Type 0
@@ -47,14 +46,14 @@ IsLeafKind kind.Note = Unit {0}
 IsLeafKind _ = ⊥
 
 -- the node at p has gone out, and the way on from it was gone
-pub record HasClosed (arena : List BareNode) (old new : List Frame) (before after : List ℕ) (p : ℕ) : Type 0 where
+pub record HasClosed (arena : List BareNode) (old new : List Cell) (before after : List ℕ) (p : ℕ) : Type 0 where
   pub gone : IsGone (cells_of old) (onward (placed arena) Done p) (cells_of new)
   pub unpicked : AreUnpickedIn arena new
   pub long : length new ≡ length old
   pub came : ComeInFor before after p (brings (cells_of old) (onward (placed arena) Done p))
 
 -- the node at p has gone out, and its element e was opened
-pub record HasOpened (arena : List BareNode) (old new : List Frame) (before after : List ℕ) (p : ℕ) (e : Exec) : Type 0 where
+pub record HasOpened (arena : List BareNode) (old new : List Cell) (before after : List ℕ) (p : ℕ) (e : Exec) : Type 0 where
   pub some : next e [] ≡ [] → ⊥
   pub stands : Stands (cells_of new) e []
   pub kept : AreKeptBut old new (nodes e)
@@ -63,13 +62,13 @@ pub record HasOpened (arena : List BareNode) (old new : List Frame) (before afte
   pub came : ComeInFor before after p (next e [])
 
 -- the element has nothing to do, and nothing has changed
-pub record IsVoid (old new : List Frame) (before after : List ℕ) (e : Exec) : Type 0 where
+pub record IsVoid (old new : List Cell) (before after : List ℕ) (e : Exec) : Type 0 where
   pub none : next e [] ≡ []
   pub stands : Stands (cells_of old) e []
   pub same : new ≡ old
   pub same_set : after ≡ before
 
 -- one or the other
-abbrev pub HasTried : List BareNode → List Frame → List Frame → List ℕ → List ℕ → ℕ → Exec → Bool → Type 0
+abbrev pub HasTried : List BareNode → List Cell → List Cell → List ℕ → List ℕ → ℕ → Exec → Bool → Type 0
 HasTried arena old new before after p e true = HasOpened arena old new before after p e
 HasTried arena old new before after p e false = IsVoid old new before after e

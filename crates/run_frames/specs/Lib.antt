@@ -1,5 +1,6 @@
 pub mod Deeds
 pub mod Frames
+pub mod Told
 pub mod Renaming
 pub mod Fresh
 pub mod Entries

@@ -1,13 +1,11 @@
 -- What a node does next, by its kind, its cell and the number of its elements.
-use Rattle.std.specs.Prelude.{◌≡◌, ℕ, [], length, Option, Some, None}
+use Rattle.std.specs.Prelude.{ℕ, [], length, Option, Some, None}
 use Rattle.exec_tree.specs.Exec.{Assigning, Setting, Waiting, Noting}
 use Rattle.exec_tree.specs.declared.kind.Kind.{Kind}
 use Rattle.exec_tree.specs.declared.kind.Kind.TheVariants as kind
 use Rattle.exec_tree.specs.declared.node.BareNode.{BareNode}
 use Rattle.trace_law.specs.Cells.{Cell, stage_of, picked}
 use Rattle.trace_law.specs.Offer.{Offer, Does, Picks, Tests, Nothing, offer_of_work}
-use Rattle.run_log.specs.declared.entry.Entry.{Entry}
-use Rattle.run_log.specs.declared.entry.Entry.TheVariants.{Pick}
 
 -- what a node of this kind does next, by its cell and the number of its elements; workplans and parallels do nothing themselves
 abbrev pub offer_at : Kind → Cell → ℕ → Offer
@@ -27,8 +25,3 @@ offer_at kind.Note c count = Does Noting
 abbrev pub offer_there : Option BareNode → Cell → Offer
 offer_there None c = Nothing
 offer_there (Some node) c = offer_at node.kind c (length node.elements)
-
--- picks are made in order
-abbrev pub IsInOrder : Offer → Entry → Type 0
-IsInOrder (Picks total ks) (Pick n k) = k ≡ length ks
-IsInOrder _ _ = Unit {0}

@@ -14,7 +14,6 @@ use Rattle.tree_table.specs.Rows.{link_of}
 use Rattle.tree_table.specs.Table.{Tells}
 use Rattle.tree_table.specs.declared.row.Continuation.{Continuation}
 use Rattle.tree_table.specs.declared.row.Row.{Row}
-use Rattle.run_frames.specs.declared.frame.Frame.{Frame}
 use Rattle.run_frames.specs.Frames.{cells_of}
 use Rattle.run_frames.specs.Entered.{AreUnpickedIn, ComeIn}
 
@@ -45,7 +44,7 @@ pub record IsWay (arena : List BareNode) (rows : List Row) (c : Continuation) (k
   pub within : IsWithin arena k
 
 -- the way was gone, and the places where the run goes on have come in
-pub record HasGone (arena : List BareNode) (old new : List Frame) (before after : List ℕ) (k : Onward) : Type 0 where
+pub record HasGone (arena : List BareNode) (old new : List Cell) (before after : List ℕ) (k : Onward) : Type 0 where
   pub gone : IsGone (cells_of old) k (cells_of new)
   pub unpicked : AreUnpickedIn arena new
   pub long : length new ≡ length old

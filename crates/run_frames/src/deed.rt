@@ -15,8 +15,8 @@ pub enum Deed {
     Passes,
     /// A message is shown.
     Notes,
-    /// One of `count` elements is picked, of which the first `picked` were.
-    Picks { count: u32, picked: usize },
+    /// One of `count` elements is picked that wasn't yet: `next` is the least index of these, or `count` where there is none.
+    Picks { count: u32, next: u32 },
     /// A condition is tested.
     Tests,
 }

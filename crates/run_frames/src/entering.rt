@@ -10,6 +10,7 @@ ghost use Rattle.tree_table.specs.Rows.{levels_at, executable_at};
 ghost use Rattle.tree_table.specs.Table.{IsEntrance, IsTable};
 ghost use Rattle.run_frames.specs.Entered.{AreUnpickedIn, IsNode, IsEntered, AreEntered};
 
+use crate::cells::Cells;
 use crate::frame::{Frame, fresh};
 use exec_tree::{Kind, Tree};
 use nc_base::Steps;
@@ -23,7 +24,7 @@ use tree_table::{Table, look_at};
 pub fn enter_at<L: Ledger>(
     tree: &Tree,
     table: &Table,
-    frames: &mut [Frame],
+    frames: &mut Cells,
     set: &mut Sorted,
     place: u32,
     steps: &mut Steps<L>,
@@ -33,10 +34,11 @@ pub fn enter_at<L: Ledger>(
     requires distinct { AreDistinct (nodes (placed tree.now.nodes)) }
     requires table { IsTable tree.now.nodes table.now.rows.items }
     requires entrance { IsEntrance tree.now.nodes table.now.rows.items place }
-    requires room { length frames.old ≡ length tree.now.nodes }
-    requires unpicked { AreUnpickedIn tree.now.nodes frames.old }
-    ensures moved { IsEntered tree.now.nodes frames.old frames.new set.old.all set.new.all (executable_at tree.now.nodes table.now.rows.items place) }
+    requires room { length frames.old.cells ≡ length tree.now.nodes }
+    requires unpicked { AreUnpickedIn tree.now.nodes frames.old.cells }
+    ensures moved { IsEntered tree.now.nodes frames.old.cells frames.new.cells set.old.all set.new.all (executable_at tree.now.nodes table.now.rows.items place) }
     ensures kept { set.new.classes ≡ set.old.classes }
+    ensures rooms { frames.new.rooms ≡ frames.old.rooms }
     ensures looks { steps.new ≤ steps.old + opening (executable_at tree.now.nodes table.now.rows.items place) }
 {
     let Some(node) = look_at(tree, place, steps) else {
@@ -53,10 +55,10 @@ pub fn enter_at<L: Ledger>(
                 node.elements.as_slice(),
                 steps,
             );
-            frames[place as usize] = Frame::Left(going);
+            frames.put(place, Frame::Left(going));
         }
         kind => {
-            frames[place as usize] = fresh(kind);
+            frames.put(place, fresh(kind));
             set.insert(place);
         }
     }
@@ -67,7 +69,7 @@ pub fn enter_at<L: Ledger>(
 fn enter_all<L: Ledger>(
     tree: &Tree,
     table: &Table,
-    frames: &mut [Frame],
+    frames: &mut Cells,
     set: &mut Sorted,
     place: u32,
     elements: &[u32],
@@ -79,10 +81,11 @@ fn enter_all<L: Ledger>(
     requires table { IsTable tree.now.nodes table.now.rows.items }
     requires entrance { IsEntrance tree.now.nodes table.now.rows.items place }
     requires node { IsNode tree.now.nodes place kinds.Par elements.now }
-    requires room { length frames.old ≡ length tree.now.nodes }
-    requires unpicked { AreUnpickedIn tree.now.nodes frames.old }
-    ensures moved { AreEntered tree.now.nodes frames.old frames.new set.old.all set.new.all (to_execs (placed_all tree.now.nodes (levels_at table.now.rows.items place - 1) elements.now)) result }
+    requires room { length frames.old.cells ≡ length tree.now.nodes }
+    requires unpicked { AreUnpickedIn tree.now.nodes frames.old.cells }
+    ensures moved { AreEntered tree.now.nodes frames.old.cells frames.new.cells set.old.all set.new.all (to_execs (placed_all tree.now.nodes (levels_at table.now.rows.items place - 1) elements.now)) result }
     ensures kept { set.new.classes ≡ set.old.classes }
+    ensures rooms { frames.new.rooms ≡ frames.old.rooms }
     ensures looks { steps.new ≤ steps.old + opening_each (to_execs (placed_all tree.now.nodes (levels_at table.now.rows.items place - 1) elements.now)) }
 {
     let mut going = 0;
@@ -99,7 +102,7 @@ fn enter_all<L: Ledger>(
 pub fn enter_tree<L: Ledger>(
     tree: &Tree,
     table: &Table,
-    frames: &mut [Frame],
+    frames: &mut Cells,
     set: &mut Sorted,
     steps: &mut Steps<L>,
 )
@@ -107,10 +110,11 @@ pub fn enter_tree<L: Ledger>(
     requires closed { IsClosed tree.now.nodes 0 (length tree.now.nodes) }
     requires distinct { AreDistinct (nodes (placed tree.now.nodes)) }
     requires table { IsTable tree.now.nodes table.now.rows.items }
-    requires room { length frames.old ≡ length tree.now.nodes }
-    requires unpicked { AreUnpickedIn tree.now.nodes frames.old }
-    ensures moved { IsEntered tree.now.nodes frames.old frames.new set.old.all set.new.all (placed tree.now.nodes) }
+    requires room { length frames.old.cells ≡ length tree.now.nodes }
+    requires unpicked { AreUnpickedIn tree.now.nodes frames.old.cells }
+    ensures moved { IsEntered tree.now.nodes frames.old.cells frames.new.cells set.old.all set.new.all (placed tree.now.nodes) }
     ensures kept { set.new.classes ≡ set.old.classes }
+    ensures rooms { frames.new.rooms ≡ frames.old.rooms }
 {
     if let Some(into) = table.tree_into(tree, steps) {
         enter_at(tree, table, frames, set, into, steps);

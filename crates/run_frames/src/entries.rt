@@ -1,14 +1,15 @@
 //! What an entry makes of its node's frame.
 
-ghost use Rattle.std.specs.Prelude.{◌≡◌};
-ghost use Rattle.run_frames.specs.Entries.{cut, ends, answer_in};
+ghost use Rattle.std.specs.Prelude.{◌≡◌, []};
+ghost use Rattle.run_frames.specs.Told.{told};
+ghost use Rattle.run_frames.specs.Entries.{cut, ends, answer_in, index_in};
 
 use crate::frame::Frame;
 use run_log::Entry;
 
 /// The frame of a workingstep after an entry of it.
 pub fn cut(entry: &Entry) -> Frame
-    ensures { result ≡ cut entry.now }
+    ensures { told result [] ≡ cut entry.now }
 {
     match *entry {
         Entry::Dispatch { .. } => Frame::Cuts(0),
@@ -35,5 +36,15 @@ pub fn answer_in(entry: &Entry) -> bool
     match *entry {
         Entry::Test { yes, .. } => yes,
         _ => false,
+    }
+}
+
+/// The index of a pick.
+pub fn index_in(entry: &Entry) -> u32
+    ensures { result ≡ index_in entry.now }
+{
+    match *entry {
+        Entry::Pick { k, .. } => k,
+        _ => 0,
     }
 }

@@ -1,8 +1,8 @@
 //! What is kept of a node.
 
-ghost use Rattle.std.specs.Prelude.{◌≡◌};
-ghost use Rattle.run_frames.specs.Frames.{frame_at, picked_by, left_in};
+ghost use Rattle.std.specs.Prelude.{◌≡◌, []};
 ghost use Rattle.run_frames.specs.Fresh.{fresh};
+ghost use Rattle.run_frames.specs.Told.{told, frame_at, stage_in, left_in, is_picks};
 
 use exec_tree::Kind;
 
@@ -17,8 +17,8 @@ pub enum Frame {
     Fresh,
     /// A workingstep or a leaf that is over.
     Over,
-    /// A non-sequential or a selective whose first so many elements were picked.
-    PickedFirst(usize),
+    /// A non-sequential or a selective. Its picks are kept beside the frames.
+    Picks,
     /// An if or a while before its test.
     Asks,
     /// An if or a while after a test with this answer.
@@ -29,11 +29,11 @@ pub enum Frame {
 
 /// The frame of an executable that isn't come to.
 pub fn fresh(kind: Kind) -> Frame
-    ensures { result ≡ fresh kind }
+    ensures { told result [] ≡ fresh kind }
 {
     match kind {
         Kind::Work => Frame::Starts,
-        Kind::NonSeq | Kind::Sel => Frame::PickedFirst(0),
+        Kind::NonSeq | Kind::Sel => Frame::Picks,
         Kind::If | Kind::While => Frame::Asks,
         _ => Frame::Fresh,
     }
@@ -49,13 +49,13 @@ pub fn frame_at(frames: &[Frame], place: u32) -> Frame
     }
 }
 
-/// How many elements its frame says to be picked.
-pub fn picked_by(frame: Frame) -> usize
-    ensures { result ≡ picked_by frame }
+/// How many blocks a workingstep has by its frame, where it is open.
+pub fn stage_in(frame: Frame) -> Option<usize>
+    ensures { result ≡ stage_in frame }
 {
     match frame {
-        Frame::PickedFirst(k) => k,
-        _ => 0,
+        Frame::Cuts(k) => Some(k),
+        _ => None,
     }
 }
 
@@ -66,5 +66,15 @@ pub fn left_in(frame: Frame) -> usize
     match frame {
         Frame::Left(k) => k,
         _ => 0,
+    }
+}
+
+/// Whether the frame is one of a node whose elements are picked.
+pub fn is_picks(frame: Frame) -> bool
+    ensures { result ≡ is_picks frame }
+{
+    match frame {
+        Frame::Picks => true,
+        _ => false,
     }
 }

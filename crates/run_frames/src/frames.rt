@@ -1,6 +1,6 @@
 //! The frames of a run.
 
-ghost use Rattle.std.specs.Prelude.{◌≡◌, ◌≢◌, ◌<◌, ◌≤◌, ◌+◌, ◌*◌, ◌∷◌, ◌++◌, [], ℕ, List, Some, true, false, IfOk, IfSome, find, length, option_map, slice_get};
+ghost use Rattle.std.specs.Prelude.{◌≡◌, ◌≢◌, ◌<◌, ◌≤◌, ◌+◌, ◌*◌, ◌∷◌, ◌++◌, [], ◌↔◌, ℕ, List, Some, true, false, IfOk, IfSome, IsTrue, find, length, option_map, slice_get, slice_index};
 ghost use Rattle.std.specs.List.{list_all};
 ghost use Rattle.exec_tree.specs.Exec.{has};
 ghost use Rattle.exec_tree.specs.Built.{channel_in, role_in};
@@ -9,28 +9,28 @@ ghost use Rattle.exec_tree.specs.declared.limits.TheConstants.{MAX_CHANNELS};
 ghost use Rattle.place_set.specs.declared.set.TheConstants.{MAX_PLACES};
 ghost use Rattle.exec_tree.specs.Said.{bare_of};
 ghost use Rattle.exec_tree.specs.declared.kind.Kind.TheVariants as kinds;
-ghost use Rattle.exec_tree.specs.declared.node.BareNode.{BareNode};
 ghost use Rattle.trace_law.specs.Below.{tree_in};
 ghost use Rattle.trace_law.specs.Of.{number_of};
 ghost use Rattle.trace_law.specs.Next.{next};
-ghost use Rattle.trace_law.specs.Offer.{offer};
+ghost use Rattle.trace_law.specs.Offer.{IsOffered, offer};
 ghost use Rattle.trace_law.specs.Part.{Part};
 ghost use Rattle.run_log.specs.declared.entry.Entry.{Entry};
+ghost use Rattle.run_log.specs.declared.entry.Entry.TheVariants.{Pick};
 ghost use Rattle.frame_law.specs.ComeTo.{nesting, new_in};
 ghost use Rattle.frame_law.specs.Looks.{AreNumbered};
 ghost use Rattle.tree_table.specs.Placed.{number_at};
-ghost use Rattle.run_frames.specs.Deeds.{deed_offer};
-ghost use Rattle.run_frames.specs.Entered.{AreUnpickedIn};
-ghost use Rattle.run_frames.specs.Frames.{told};
+ghost use Rattle.run_frames.specs.Deeds.{IsDeed};
+ghost use Rattle.run_frames.specs.Frames.{cells_of};
+ghost use Rattle.run_frames.specs.Told.{room_in};
 ghost use Rattle.run_frames.specs.OfferAt.{offer_at};
-ghost use Rattle.run_frames.specs.Standing.{IsAt, IsPlace, IsNextOf};
+ghost use Rattle.run_frames.specs.Standing.{IsAt, IsPlace};
 ghost use Rattle.place_classes.specs.Classes.{IsClass, class_at};
 ghost use Rattle.run_frames.specs.Ready.{IsSorted, AreClasses, is_empty, is_ready, waits_by, opens, class_in, classes_when, classes_after};
 ghost use Rattle.exec_tree.specs.declared.role.Role.TheVariants as role;
 
+use crate::cells::Cells;
 use crate::deed::Deed;
 use crate::entering::enter_tree;
-use crate::frame::{Frame, frame_at, picked_by};
 use crate::moving::move_at;
 use crate::nodes::number_at;
 use crate::waits::Waits;
@@ -45,31 +45,31 @@ use tree_table::Table;
 
 /// Where a run stands in its tree: of each node to which it has come what that has in its present turn, and all nodes where it can go on,
 /// with the table of the tree, which tells where a node leads and where the run goes on from it. What frames stand for is told by `IsAt`.
-/// The picks of the run are made in order.
 #[derive(Drop)]
 pub struct Frames {
-    frames: Vec<Frame>,
+    frames: Cells,
     table: Table,
     set: Sorted,
     waits: Waits,
 }
 
-/// What a node of this kind does next, with so many elements, by its frame. A workplan or a parallel does nothing itself.
-fn deed_at(kind: Kind, frame: Frame, count: u32) -> Deed
+/// What the node of this kind at a place does next, with so many elements. A workplan or a parallel does nothing itself.
+fn deed_at(kind: Kind, cells: &Cells, place: u32, count: u32) -> Deed
     requires no_plan { kind ≢ kinds.Plan }
     requires no_parallel { kind ≢ kinds.Par }
-    ensures { deed_offer result ≡ offer_at kind (told frame) count }
+    requires room { slice_index cells.now.rooms place ≡ room_in kind count }
+    ensures { IsDeed (offer_at kind (cells_of cells.now.cells place) count) result }
 {
     match kind {
-        Kind::Work => match frame {
-            Frame::Cuts(k) => Deed::Cuts(k),
-            _ => Deed::Starts,
+        Kind::Work => match cells.stage(place) {
+            Some(k) => Deed::Cuts(k),
+            None => Deed::Starts,
         },
         Kind::NonSeq => Deed::Picks {
             count,
-            picked: picked_by(frame),
+            next: cells.next(place),
         },
-        Kind::Sel => Deed::Picks { count, picked: 0 },
+        Kind::Sel => Deed::Picks { count, next: 0 },
         Kind::If | Kind::While => Deed::Tests,
         Kind::Assign => Deed::Assigns,
         Kind::Set => Deed::Sets,
@@ -78,16 +78,15 @@ fn deed_at(kind: Kind, frame: Frame, count: u32) -> Deed
     }
 }
 
-/// A frame for each of so many nodes, none with picks.
-fn blank(alloc: Global, count: usize) -> Result<Vec<Frame>, NoMemory>
-    ensures long { IfOk result (λ frames. length frames.items ≡ count) }
-    ensures unpicked { IfOk result (λ frames. (arena : List BareNode) → length arena ≡ count → AreUnpickedIn arena frames.items) }
+/// Whether the node of this kind at a place, with so many elements, may pick the one at an index next.
+fn may_pick_at(kind: Kind, cells: &Cells, place: u32, count: u32, index: u32) -> bool
+    ensures { (n : ℕ) → IsTrue result ↔ IsOffered (offer_at kind (cells_of cells.now.cells place) count) n (Pick n index) }
 {
-    let mut frames = Vec::with_capacity(alloc, count)?;
-    for _i in 0..count {
-        frames.push(Frame::PickedFirst(0))?;
+    match kind {
+        Kind::NonSeq => index < count && !cells.has(place, index),
+        Kind::Sel => index < count,
+        _ => false,
     }
-    Ok(frames)
 }
 
 impl Frames {
@@ -105,10 +104,10 @@ impl Frames {
     {
         let arena = tree.nodes();
         let table = Table::new(alloc, tree)?;
-        let mut frames = blank(alloc, arena.len())?;
+        let mut frames = Cells::new(alloc, arena)?;
         let mut set = Sorted::new(alloc, first_classes(alloc, tree)?)?;
         let waits = Waits::new(alloc, tree)?;
-        enter_tree(tree, &table, frames.as_mut_slice(), &mut set, steps);
+        enter_tree(tree, &table, &mut frames, &mut set, steps);
         Ok(Frames {
             frames,
             table,
@@ -121,19 +120,43 @@ impl Frames {
     pub fn deed(&self, tree: &Tree, node: &Node, place: u32) -> Deed
         requires node { slice_get tree.now.nodes place ≡ Some (bare_of node.now) }
         requires at { (t : List Entry) × IsAt tree.now.nodes self.now t × IsPlace tree.now.nodes place × (has (next (tree_in tree.now) t) (number_at tree.now.nodes place) ≡ true) }
-        ensures { (t : List Entry) → IsAt tree.now.nodes self.now t → has (next (tree_in tree.now) t) (number_at tree.now.nodes place) ≡ true → deed_offer result ≡ offer (tree_in tree.now) t (number_at tree.now.nodes place) }
+        ensures { (t : List Entry) → IsAt tree.now.nodes self.now t → has (next (tree_in tree.now) t) (number_at tree.now.nodes place) ≡ true → IsDeed (offer (tree_in tree.now) t (number_at tree.now.nodes place)) result }
     {
         tree.nodes();
-        deed_at(
+        deed_at(node.kind.kind(), &self.frames, place, node.elements.len())
+    }
+
+    /// Whether the node at a place where the run can go on may pick the element at an index next: it picks, and that one is left. The caller has
+    /// looked at the node.
+    pub fn may_pick(&self, tree: &Tree, node: &Node, place: u32, index: u32) -> bool
+        requires node { slice_get tree.now.nodes place ≡ Some (bare_of node.now) }
+        requires at { (t : List Entry) × IsAt tree.now.nodes self.now t × IsPlace tree.now.nodes place × (has (next (tree_in tree.now) t) (number_at tree.now.nodes place) ≡ true) }
+        ensures { (t : List Entry) → IsAt tree.now.nodes self.now t → has (next (tree_in tree.now) t) (number_at tree.now.nodes place) ≡ true → IsTrue result ↔ IsOffered (offer (tree_in tree.now) t (number_at tree.now.nodes place)) (number_at tree.now.nodes place) (Pick (number_at tree.now.nodes place) index) }
+    {
+        tree.nodes();
+        may_pick_at(
             node.kind.kind(),
-            frame_at(&self.frames, place),
+            &self.frames,
+            place,
             node.elements.len(),
+            index,
         )
     }
 
-    /// Moves the frames by an entry of the node at a place, with which the run is still a run so far. A pick takes the least index that is
-    /// left. It takes no memory. Each look at a node counts one step: where each element of the tree has a number, at most three more than the
-    /// tree's greatest nesting and twice the number of nodes that are new by the entry.
+    /// Whether the run can go on at the node at a place.
+    pub fn goes_on(&self, tree: &Tree, place: u32) -> bool
+        requires place { IsPlace tree.now.nodes place }
+        requires at { (t : List Entry) × IsAt tree.now.nodes self.now t }
+        ensures { (t : List Entry) → IsAt tree.now.nodes self.now t → result ≡ has (next (tree_in tree.now) t) (number_at tree.now.nodes place) }
+    {
+        tree.nodes();
+        places_are_found();
+        self.set.contains(place)
+    }
+
+    /// Moves the frames by an entry of the node at a place, with which the run is still a run so far. It takes no memory. Each look at a node
+    /// counts one step: where each element of the tree has a number, at most three more than the tree's greatest nesting and twice the number of
+    /// nodes that are new by the entry.
     pub fn advance<L: Ledger>(
         &mut self,
         tree: &Tree,
@@ -142,7 +165,7 @@ impl Frames {
         steps: &mut Steps<L>,
     )
         requires place { IfSome (number_of entry.now) (λ n. place_from 0 tree.now.nodes n ≡ Some place) }
-        requires at { (t : List Entry) × IsAt tree.now.nodes self.old t × Part (tree_in tree.now) (t ++ entry.now ∷ []) × IsNextOf (tree_in tree.now) t entry.now }
+        requires at { (t : List Entry) × IsAt tree.now.nodes self.old t × Part (tree_in tree.now) (t ++ entry.now ∷ []) }
         ensures at { (t : List Entry) → IsAt tree.now.nodes self.old t → Part (tree_in tree.now) (t ++ entry.now ∷ []) → IsAt tree.now.nodes self.new (t ++ entry.now ∷ []) }
         ensures sorted { (t : List Entry) (released : List ℕ) → IsAt tree.now.nodes self.old t → Part (tree_in tree.now) (t ++ entry.now ∷ []) → IsSorted tree.now self.old t released → IsSorted tree.now self.new (t ++ entry.now ∷ []) released }
         ensures looks { (t : List Entry) → IsAt tree.now.nodes self.old t → Part (tree_in tree.now) (t ++ entry.now ∷ []) → AreNumbered (tree_in tree.now) → steps.new ≤ steps.old + (3 + nesting (tree_in tree.now) + 2 * length (new_in (tree_in tree.now) t entry.now)) }
@@ -151,7 +174,7 @@ impl Frames {
         move_at(
             tree,
             &self.table,
-            self.frames.as_mut_slice(),
+            &mut self.frames,
             &mut self.set,
             place,
             entry,

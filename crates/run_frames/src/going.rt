@@ -10,13 +10,14 @@ ghost use Rattle.tree_table.specs.Placed.{placed};
 ghost use Rattle.tree_table.specs.Rows.{after_at};
 ghost use Rattle.tree_table.specs.Table.{IsTable, count_at};
 ghost use Rattle.tree_table.specs.declared.row.Continuation.TheVariants as row;
-ghost use Rattle.run_frames.specs.declared.frame.Frame.TheVariants as frame;
+ghost use Rattle.trace_law.specs.Cells as cell;
 ghost use Rattle.run_frames.specs.Frames.{cells_of};
 ghost use Rattle.run_frames.specs.Entered.{AreUnpickedIn};
 ghost use Rattle.run_frames.specs.Ways.{IsWay, HasGone};
 
+use crate::cells::Cells;
 use crate::entering::enter_at;
-use crate::frame::{Frame, frame_at, left_in, picked_by};
+use crate::frame::Frame;
 use exec_tree::Tree;
 use nc_base::Steps;
 use place_classes::Sorted;
@@ -45,13 +46,14 @@ fn count_at<L: Ledger>(tree: &Tree, place: u32, steps: &mut Steps<L>) -> usize
 }
 
 /// The parallel at a place has one element less: whether that was its last.
-fn count_down(frames: &mut [Frame], place: u32) -> bool
-    requires { place < length frames.old }
-    ensures last { result ≡ (left (cells_of frames.old place) == 1) }
-    ensures written { frames.new ≡ slice_set frames.old place (frame.Left (left (cells_of frames.old place) - 1)) }
+fn count_down(frames: &mut Cells, place: u32) -> bool
+    requires { place < length frames.old.cells }
+    ensures last { result ≡ (left (cells_of frames.old.cells place) == 1) }
+    ensures written { frames.new.cells ≡ slice_set frames.old.cells place (cell.Left (left (cells_of frames.old.cells place) - 1)) }
+    ensures rooms { frames.new.rooms ≡ frames.old.rooms }
 {
-    let left = left_in(frame_at(frames, place));
-    frames[place as usize] = Frame::Left(left.saturating_sub(1));
+    let left = frames.left(place);
+    frames.put(place, Frame::Left(left.saturating_sub(1)));
     left == 1
 }
 
@@ -60,7 +62,7 @@ fn count_down(frames: &mut [Frame], place: u32) -> bool
 pub fn go_on<L: Ledger>(
     tree: &Tree,
     table: &Table,
-    frames: &mut [Frame],
+    frames: &mut Cells,
     set: &mut Sorted,
     continuation: Continuation,
     steps: &mut Steps<L>,
@@ -70,11 +72,12 @@ pub fn go_on<L: Ledger>(
     requires distinct { AreDistinct (nodes (placed tree.now.nodes)) }
     requires table { IsTable tree.now.nodes table.now.rows.items }
     requires way { (k : Onward) × IsWay tree.now.nodes table.now.rows.items continuation k }
-    requires room { length frames.old ≡ length tree.now.nodes }
-    requires unpicked { AreUnpickedIn tree.now.nodes frames.old }
-    ensures moved { (k : Onward) → IsWay tree.now.nodes table.now.rows.items continuation k → HasGone tree.now.nodes frames.old frames.new set.old.all set.new.all k }
+    requires room { length frames.old.cells ≡ length tree.now.nodes }
+    requires unpicked { AreUnpickedIn tree.now.nodes frames.old.cells }
+    ensures moved { (k : Onward) → IsWay tree.now.nodes table.now.rows.items continuation k → HasGone tree.now.nodes frames.old.cells frames.new.cells set.old.all set.new.all k }
     ensures kept { set.new.classes ≡ set.old.classes }
-    ensures looks { (k : Onward) → IsWay tree.now.nodes table.now.rows.items continuation k → steps.new ≤ steps.old + way_looks (cells_of frames.old) k }
+    ensures rooms { frames.new.rooms ≡ frames.old.rooms }
+    ensures looks { (k : Onward) → IsWay tree.now.nodes table.now.rows.items continuation k → steps.new ≤ steps.old + way_looks (cells_of frames.old.cells) k }
 {
     match continuation {
         Continuation::Done => {}
@@ -90,7 +93,7 @@ pub fn go_on<L: Ledger>(
 fn join<L: Ledger>(
     tree: &Tree,
     table: &Table,
-    frames: &mut [Frame],
+    frames: &mut Cells,
     set: &mut Sorted,
     place: u32,
     steps: &mut Steps<L>,
@@ -100,11 +103,12 @@ fn join<L: Ledger>(
     requires distinct { AreDistinct (nodes (placed tree.now.nodes)) }
     requires table { IsTable tree.now.nodes table.now.rows.items }
     requires way { (k : Onward) × IsWay tree.now.nodes table.now.rows.items (row.Joins place) k }
-    requires room { length frames.old ≡ length tree.now.nodes }
-    requires unpicked { AreUnpickedIn tree.now.nodes frames.old }
-    ensures moved { (k : Onward) → IsWay tree.now.nodes table.now.rows.items (row.Joins place) k → HasGone tree.now.nodes frames.old frames.new set.old.all set.new.all k }
+    requires room { length frames.old.cells ≡ length tree.now.nodes }
+    requires unpicked { AreUnpickedIn tree.now.nodes frames.old.cells }
+    ensures moved { (k : Onward) → IsWay tree.now.nodes table.now.rows.items (row.Joins place) k → HasGone tree.now.nodes frames.old.cells frames.new.cells set.old.all set.new.all k }
     ensures kept { set.new.classes ≡ set.old.classes }
-    ensures looks { (k : Onward) → IsWay tree.now.nodes table.now.rows.items (row.Joins place) k → steps.new ≤ steps.old + way_looks (cells_of frames.old) k }
+    ensures rooms { frames.new.rooms ≡ frames.old.rooms }
+    ensures looks { (k : Onward) → IsWay tree.now.nodes table.now.rows.items (row.Joins place) k → steps.new ≤ steps.old + way_looks (cells_of frames.old.cells) k }
 {
     if count_down(frames, place) {
         go_on(tree, table, frames, set, after_at(table, place), steps);
@@ -116,7 +120,7 @@ fn join<L: Ledger>(
 fn pick_on<L: Ledger>(
     tree: &Tree,
     table: &Table,
-    frames: &mut [Frame],
+    frames: &mut Cells,
     set: &mut Sorted,
     place: u32,
     steps: &mut Steps<L>,
@@ -126,13 +130,14 @@ fn pick_on<L: Ledger>(
     requires distinct { AreDistinct (nodes (placed tree.now.nodes)) }
     requires table { IsTable tree.now.nodes table.now.rows.items }
     requires way { (k : Onward) × IsWay tree.now.nodes table.now.rows.items (row.PicksOn place) k }
-    requires room { length frames.old ≡ length tree.now.nodes }
-    requires unpicked { AreUnpickedIn tree.now.nodes frames.old }
-    ensures moved { (k : Onward) → IsWay tree.now.nodes table.now.rows.items (row.PicksOn place) k → HasGone tree.now.nodes frames.old frames.new set.old.all set.new.all k }
+    requires room { length frames.old.cells ≡ length tree.now.nodes }
+    requires unpicked { AreUnpickedIn tree.now.nodes frames.old.cells }
+    ensures moved { (k : Onward) → IsWay tree.now.nodes table.now.rows.items (row.PicksOn place) k → HasGone tree.now.nodes frames.old.cells frames.new.cells set.old.all set.new.all k }
     ensures kept { set.new.classes ≡ set.old.classes }
-    ensures looks { (k : Onward) → IsWay tree.now.nodes table.now.rows.items (row.PicksOn place) k → steps.new ≤ steps.old + way_looks (cells_of frames.old) k }
+    ensures rooms { frames.new.rooms ≡ frames.old.rooms }
+    ensures looks { (k : Onward) → IsWay tree.now.nodes table.now.rows.items (row.PicksOn place) k → steps.new ≤ steps.old + way_looks (cells_of frames.old.cells) k }
 {
-    if picked_by(frame_at(frames, place)) == count_at(tree, place, steps) {
+    if frames.count(place) == count_at(tree, place, steps) {
         go_on(tree, table, frames, set, after_at(table, place), steps);
     } else {
         set.insert(place);

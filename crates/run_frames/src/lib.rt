@@ -5,6 +5,7 @@
 //! |---|---|---|
 //! | frames | the frames of a run | `Frames` |
 //! | deed | what a node does next | `Deed` |
+//! | cells | what is kept of each node | |
 //! | frame | what is kept of a node | |
 //! | entries | what an entry makes of its node's frame | |
 //! | moving | the move by one entry, from its own node on | |
@@ -14,6 +15,7 @@
 //! | waits | the waits of a tree for each mark | |
 #![tactic(auto)]
 
+mod cells;
 mod deed;
 mod entering;
 mod entries;

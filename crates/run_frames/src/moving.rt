@@ -14,12 +14,14 @@ ghost use Rattle.tree_table.specs.Rows.{levels_at};
 ghost use Rattle.tree_table.specs.Table.{IsElement, IsTable};
 ghost use Rattle.run_frames.specs.Entered.{AreUnpickedIn, IsNode};
 ghost use Rattle.run_frames.specs.Frames.{cells_of};
+ghost use Rattle.run_frames.specs.Told.{rooms_of};
 ghost use Rattle.run_frames.specs.Renaming.{entry_at};
 ghost use Rattle.run_frames.specs.Held.{IsHeld, IsStep, IsLeafKind, HasClosed, HasTried};
 
+use crate::cells::Cells;
 use crate::entering::enter_at;
-use crate::entries::{answer_in, cut, ends};
-use crate::frame::{Frame, frame_at, picked_by};
+use crate::entries::{answer_in, cut, ends, index_in};
+use crate::frame::Frame;
 use crate::going::{after_at, go_on};
 use crate::nodes::element_at;
 use exec_tree::{Kind, Tree};
@@ -33,7 +35,7 @@ use tree_table::{Table, look_at};
 fn close<L: Ledger>(
     tree: &Tree,
     table: &Table,
-    frames: &mut [Frame],
+    frames: &mut Cells,
     set: &mut Sorted,
     place: u32,
     steps: &mut Steps<L>,
@@ -45,11 +47,12 @@ fn close<L: Ledger>(
     requires inside { has (nodes (placed tree.now.nodes)) place ≡ true }
     requires within { place < length tree.now.nodes }
     requires there { holds set.old.all place ≡ true }
-    requires room { length frames.old ≡ length tree.now.nodes }
-    requires unpicked { AreUnpickedIn tree.now.nodes frames.old }
-    ensures moved { HasClosed tree.now.nodes frames.old frames.new set.old.all set.new.all place }
+    requires room { length frames.old.cells ≡ length tree.now.nodes }
+    requires unpicked { AreUnpickedIn tree.now.nodes frames.old.cells }
+    ensures moved { HasClosed tree.now.nodes frames.old.cells frames.new.cells set.old.all set.new.all place }
     ensures kept { set.new.classes ≡ set.old.classes }
-    ensures looks { steps.new ≤ steps.old + way_looks (cells_of frames.old) (onward (placed tree.now.nodes) Done place) }
+    ensures rooms { frames.new.rooms ≡ frames.old.rooms }
+    ensures looks { steps.new ≤ steps.old + way_looks (cells_of frames.old.cells) (onward (placed tree.now.nodes) Done place) }
 {
     set.remove(place);
     go_on(tree, table, frames, set, after_at(table, place), steps);
@@ -59,7 +62,7 @@ fn close<L: Ledger>(
 fn open_instead<L: Ledger>(
     tree: &Tree,
     table: &Table,
-    frames: &mut [Frame],
+    frames: &mut Cells,
     set: &mut Sorted,
     place: u32,
     element: u32,
@@ -73,10 +76,11 @@ fn open_instead<L: Ledger>(
     requires within { place < length tree.now.nodes }
     requires element { IsElement tree.now.nodes place element }
     requires there { holds set.old.all place ≡ true }
-    requires room { length frames.old ≡ length tree.now.nodes }
-    requires unpicked { AreUnpickedIn tree.now.nodes frames.old }
-    ensures moved { HasTried tree.now.nodes frames.old frames.new set.old.all set.new.all place (placed_down tree.now.nodes (levels_at table.now.rows.items place - 1) element) result }
+    requires room { length frames.old.cells ≡ length tree.now.nodes }
+    requires unpicked { AreUnpickedIn tree.now.nodes frames.old.cells }
+    ensures moved { HasTried tree.now.nodes frames.old.cells frames.new.cells set.old.all set.new.all place (placed_down tree.now.nodes (levels_at table.now.rows.items place - 1) element) result }
     ensures kept { set.new.classes ≡ set.old.classes }
+    ensures rooms { frames.new.rooms ≡ frames.old.rooms }
     ensures looks { steps.new ≤ steps.old + element_looks (placed_down tree.now.nodes (levels_at table.now.rows.items place - 1) element) 0 }
 {
     match table.element_into(tree, place, element, steps) {
@@ -93,7 +97,7 @@ fn open_instead<L: Ledger>(
 fn move_step<L: Ledger>(
     tree: &Tree,
     table: &Table,
-    frames: &mut [Frame],
+    frames: &mut Cells,
     set: &mut Sorted,
     place: u32,
     elements: &[u32],
@@ -105,22 +109,23 @@ fn move_step<L: Ledger>(
     requires distinct { AreDistinct (nodes (placed tree.now.nodes)) }
     requires table { IsTable tree.now.nodes table.now.rows.items }
     requires node { IsNode tree.now.nodes place kinds.Work elements.now }
-    requires moves { (t : List Entry) × IsStep tree.now.nodes frames.old set.old.all t place entry.now }
-    ensures moved { (t : List Entry) → IsStep tree.now.nodes frames.old set.old.all t place entry.now → IsHeld tree.now.nodes frames.new set.new.all (t ++ entry_at place entry.now ∷ []) }
+    requires moves { (t : List Entry) × IsStep tree.now.nodes frames.old.cells set.old.all t place entry.now }
+    ensures moved { (t : List Entry) → IsStep tree.now.nodes frames.old.cells set.old.all t place entry.now → IsHeld tree.now.nodes frames.new.cells set.new.all (t ++ entry_at place entry.now ∷ []) }
     ensures kept { set.new.classes ≡ set.old.classes }
-    ensures looks { (t : List Entry) → IsStep tree.now.nodes frames.old set.old.all t place entry.now → steps.new ≤ steps.old + node_looks (cells_of frames.old) (executable_at (placed tree.now.nodes) place) (entry_at place entry.now) (onward (placed tree.now.nodes) Done place) }
+    ensures rooms { frames.new.rooms ≡ frames.old.rooms }
+    ensures looks { (t : List Entry) → IsStep tree.now.nodes frames.old.cells set.old.all t place entry.now → steps.new ≤ steps.old + node_looks (cells_of frames.old.cells) (executable_at (placed tree.now.nodes) place) (entry_at place entry.now) (onward (placed tree.now.nodes) Done place) }
 {
-    frames[place as usize] = cut(entry);
+    frames.put(place, cut(entry));
     if ends(entry) {
         close(tree, table, frames, set, place, steps);
     }
 }
 
-/// The next element of a non-sequential is picked.
+/// An element of a non-sequential is picked.
 fn move_picks<L: Ledger>(
     tree: &Tree,
     table: &Table,
-    frames: &mut [Frame],
+    frames: &mut Cells,
     set: &mut Sorted,
     place: u32,
     elements: &[u32],
@@ -132,34 +137,29 @@ fn move_picks<L: Ledger>(
     requires distinct { AreDistinct (nodes (placed tree.now.nodes)) }
     requires table { IsTable tree.now.nodes table.now.rows.items }
     requires node { IsNode tree.now.nodes place kinds.NonSeq elements.now }
-    requires moves { (t : List Entry) × IsStep tree.now.nodes frames.old set.old.all t place entry.now }
-    ensures moved { (t : List Entry) → IsStep tree.now.nodes frames.old set.old.all t place entry.now → IsHeld tree.now.nodes frames.new set.new.all (t ++ entry_at place entry.now ∷ []) }
+    requires rooms { frames.old.rooms ≡ rooms_of tree.now.nodes }
+    requires moves { (t : List Entry) × IsStep tree.now.nodes frames.old.cells set.old.all t place entry.now }
+    ensures moved { (t : List Entry) → IsStep tree.now.nodes frames.old.cells set.old.all t place entry.now → IsHeld tree.now.nodes frames.new.cells set.new.all (t ++ entry_at place entry.now ∷ []) }
     ensures kept { set.new.classes ≡ set.old.classes }
-    ensures looks { (t : List Entry) → IsStep tree.now.nodes frames.old set.old.all t place entry.now → steps.new ≤ steps.old + node_looks (cells_of frames.old) (executable_at (placed tree.now.nodes) place) (entry_at place entry.now) (onward (placed tree.now.nodes) Done place) }
+    ensures rooms { frames.new.rooms ≡ frames.old.rooms }
+    ensures looks { (t : List Entry) → IsStep tree.now.nodes frames.old.cells set.old.all t place entry.now → steps.new ≤ steps.old + node_looks (cells_of frames.old.cells) (executable_at (placed tree.now.nodes) place) (entry_at place entry.now) (onward (placed tree.now.nodes) Done place) }
 {
-    let k = next_index(picked_by(frame_at(frames, place)), elements.len());
-    frames[place as usize] = Frame::PickedFirst(k + 1);
-    if open_instead(
-        tree,
-        table,
-        frames,
-        set,
-        place,
-        element_at(elements, k),
-        steps,
-    ) {
+    let k = index_in(entry);
+    frames.pick(place, k);
+    let element = element_at(elements, k as usize);
+    if open_instead(tree, table, frames, set, place, element, steps) {
         return;
     }
-    if k + 1 == elements.len() {
+    if frames.count(place) == elements.len() {
         close(tree, table, frames, set, place, steps);
     }
 }
 
-/// The first element of a selective is picked.
+/// An element of a selective is picked.
 fn move_choice<L: Ledger>(
     tree: &Tree,
     table: &Table,
-    frames: &mut [Frame],
+    frames: &mut Cells,
     set: &mut Sorted,
     place: u32,
     elements: &[u32],
@@ -171,21 +171,17 @@ fn move_choice<L: Ledger>(
     requires distinct { AreDistinct (nodes (placed tree.now.nodes)) }
     requires table { IsTable tree.now.nodes table.now.rows.items }
     requires node { IsNode tree.now.nodes place kinds.Sel elements.now }
-    requires moves { (t : List Entry) × IsStep tree.now.nodes frames.old set.old.all t place entry.now }
-    ensures moved { (t : List Entry) → IsStep tree.now.nodes frames.old set.old.all t place entry.now → IsHeld tree.now.nodes frames.new set.new.all (t ++ entry_at place entry.now ∷ []) }
+    requires rooms { frames.old.rooms ≡ rooms_of tree.now.nodes }
+    requires moves { (t : List Entry) × IsStep tree.now.nodes frames.old.cells set.old.all t place entry.now }
+    ensures moved { (t : List Entry) → IsStep tree.now.nodes frames.old.cells set.old.all t place entry.now → IsHeld tree.now.nodes frames.new.cells set.new.all (t ++ entry_at place entry.now ∷ []) }
     ensures kept { set.new.classes ≡ set.old.classes }
-    ensures looks { (t : List Entry) → IsStep tree.now.nodes frames.old set.old.all t place entry.now → steps.new ≤ steps.old + node_looks (cells_of frames.old) (executable_at (placed tree.now.nodes) place) (entry_at place entry.now) (onward (placed tree.now.nodes) Done place) }
+    ensures rooms { frames.new.rooms ≡ frames.old.rooms }
+    ensures looks { (t : List Entry) → IsStep tree.now.nodes frames.old.cells set.old.all t place entry.now → steps.new ≤ steps.old + node_looks (cells_of frames.old.cells) (executable_at (placed tree.now.nodes) place) (entry_at place entry.now) (onward (placed tree.now.nodes) Done place) }
 {
-    frames[place as usize] = Frame::PickedFirst(1);
-    if !open_instead(
-        tree,
-        table,
-        frames,
-        set,
-        place,
-        element_at(elements, 0),
-        steps,
-    ) {
+    let k = index_in(entry);
+    frames.pick(place, k);
+    let element = element_at(elements, k as usize);
+    if !open_instead(tree, table, frames, set, place, element, steps) {
         close(tree, table, frames, set, place, steps);
     }
 }
@@ -201,7 +197,7 @@ fn branch_index(answer: bool) -> usize
 fn move_branch<L: Ledger>(
     tree: &Tree,
     table: &Table,
-    frames: &mut [Frame],
+    frames: &mut Cells,
     set: &mut Sorted,
     place: u32,
     elements: &[u32],
@@ -213,13 +209,14 @@ fn move_branch<L: Ledger>(
     requires distinct { AreDistinct (nodes (placed tree.now.nodes)) }
     requires table { IsTable tree.now.nodes table.now.rows.items }
     requires node { IsNode tree.now.nodes place kinds.If elements.now }
-    requires moves { (t : List Entry) × IsStep tree.now.nodes frames.old set.old.all t place entry.now }
-    ensures moved { (t : List Entry) → IsStep tree.now.nodes frames.old set.old.all t place entry.now → IsHeld tree.now.nodes frames.new set.new.all (t ++ entry_at place entry.now ∷ []) }
+    requires moves { (t : List Entry) × IsStep tree.now.nodes frames.old.cells set.old.all t place entry.now }
+    ensures moved { (t : List Entry) → IsStep tree.now.nodes frames.old.cells set.old.all t place entry.now → IsHeld tree.now.nodes frames.new.cells set.new.all (t ++ entry_at place entry.now ∷ []) }
     ensures kept { set.new.classes ≡ set.old.classes }
-    ensures looks { (t : List Entry) → IsStep tree.now.nodes frames.old set.old.all t place entry.now → steps.new ≤ steps.old + node_looks (cells_of frames.old) (executable_at (placed tree.now.nodes) place) (entry_at place entry.now) (onward (placed tree.now.nodes) Done place) }
+    ensures rooms { frames.new.rooms ≡ frames.old.rooms }
+    ensures looks { (t : List Entry) → IsStep tree.now.nodes frames.old.cells set.old.all t place entry.now → steps.new ≤ steps.old + node_looks (cells_of frames.old.cells) (executable_at (placed tree.now.nodes) place) (entry_at place entry.now) (onward (placed tree.now.nodes) Done place) }
 {
     let answer = answer_in(entry);
-    frames[place as usize] = Frame::Answered(answer);
+    frames.put(place, Frame::Answered(answer));
     let element = element_at(elements, branch_index(answer));
     if !open_instead(tree, table, frames, set, place, element, steps) {
         close(tree, table, frames, set, place, steps);
@@ -230,7 +227,7 @@ fn move_branch<L: Ledger>(
 fn move_turn<L: Ledger>(
     tree: &Tree,
     table: &Table,
-    frames: &mut [Frame],
+    frames: &mut Cells,
     set: &mut Sorted,
     place: u32,
     elements: &[u32],
@@ -242,13 +239,14 @@ fn move_turn<L: Ledger>(
     requires distinct { AreDistinct (nodes (placed tree.now.nodes)) }
     requires table { IsTable tree.now.nodes table.now.rows.items }
     requires node { IsNode tree.now.nodes place kinds.While elements.now }
-    requires moves { (t : List Entry) × IsStep tree.now.nodes frames.old set.old.all t place entry.now }
-    ensures moved { (t : List Entry) → IsStep tree.now.nodes frames.old set.old.all t place entry.now → IsHeld tree.now.nodes frames.new set.new.all (t ++ entry_at place entry.now ∷ []) }
+    requires moves { (t : List Entry) × IsStep tree.now.nodes frames.old.cells set.old.all t place entry.now }
+    ensures moved { (t : List Entry) → IsStep tree.now.nodes frames.old.cells set.old.all t place entry.now → IsHeld tree.now.nodes frames.new.cells set.new.all (t ++ entry_at place entry.now ∷ []) }
     ensures kept { set.new.classes ≡ set.old.classes }
-    ensures looks { (t : List Entry) → IsStep tree.now.nodes frames.old set.old.all t place entry.now → steps.new ≤ steps.old + node_looks (cells_of frames.old) (executable_at (placed tree.now.nodes) place) (entry_at place entry.now) (onward (placed tree.now.nodes) Done place) }
+    ensures rooms { frames.new.rooms ≡ frames.old.rooms }
+    ensures looks { (t : List Entry) → IsStep tree.now.nodes frames.old.cells set.old.all t place entry.now → steps.new ≤ steps.old + node_looks (cells_of frames.old.cells) (executable_at (placed tree.now.nodes) place) (entry_at place entry.now) (onward (placed tree.now.nodes) Done place) }
 {
     let answer = answer_in(entry);
-    frames[place as usize] = Frame::Answered(answer);
+    frames.put(place, Frame::Answered(answer));
     if answer {
         open_instead(
             tree,
@@ -268,7 +266,7 @@ fn move_turn<L: Ledger>(
 fn move_leaf<L: Ledger>(
     tree: &Tree,
     table: &Table,
-    frames: &mut [Frame],
+    frames: &mut Cells,
     set: &mut Sorted,
     place: u32,
     kind: Kind,
@@ -281,12 +279,13 @@ fn move_leaf<L: Ledger>(
     requires table { IsTable tree.now.nodes table.now.rows.items }
     requires node { (elements : List ℕ) × IsNode tree.now.nodes place kind elements }
     requires leaf { IsLeafKind kind }
-    requires moves { (t : List Entry) × IsStep tree.now.nodes frames.old set.old.all t place entry.now }
-    ensures moved { (t : List Entry) → IsStep tree.now.nodes frames.old set.old.all t place entry.now → IsHeld tree.now.nodes frames.new set.new.all (t ++ entry_at place entry.now ∷ []) }
+    requires moves { (t : List Entry) × IsStep tree.now.nodes frames.old.cells set.old.all t place entry.now }
+    ensures moved { (t : List Entry) → IsStep tree.now.nodes frames.old.cells set.old.all t place entry.now → IsHeld tree.now.nodes frames.new.cells set.new.all (t ++ entry_at place entry.now ∷ []) }
     ensures kept { set.new.classes ≡ set.old.classes }
-    ensures looks { (t : List Entry) → IsStep tree.now.nodes frames.old set.old.all t place entry.now → steps.new ≤ steps.old + node_looks (cells_of frames.old) (executable_at (placed tree.now.nodes) place) (entry_at place entry.now) (onward (placed tree.now.nodes) Done place) }
+    ensures rooms { frames.new.rooms ≡ frames.old.rooms }
+    ensures looks { (t : List Entry) → IsStep tree.now.nodes frames.old.cells set.old.all t place entry.now → steps.new ≤ steps.old + node_looks (cells_of frames.old.cells) (executable_at (placed tree.now.nodes) place) (entry_at place entry.now) (onward (placed tree.now.nodes) Done place) }
 {
-    frames[place as usize] = Frame::Over;
+    frames.put(place, Frame::Over);
     close(tree, table, frames, set, place, steps);
 }
 
@@ -294,7 +293,7 @@ fn move_leaf<L: Ledger>(
 pub fn move_at<L: Ledger>(
     tree: &Tree,
     table: &Table,
-    frames: &mut [Frame],
+    frames: &mut Cells,
     set: &mut Sorted,
     place: u32,
     entry: &Entry,
@@ -304,10 +303,12 @@ pub fn move_at<L: Ledger>(
     requires closed { IsClosed tree.now.nodes 0 (length tree.now.nodes) }
     requires distinct { AreDistinct (nodes (placed tree.now.nodes)) }
     requires table { IsTable tree.now.nodes table.now.rows.items }
-    requires moves { (t : List Entry) × IsStep tree.now.nodes frames.old set.old.all t place entry.now }
-    ensures moved { (t : List Entry) → IsStep tree.now.nodes frames.old set.old.all t place entry.now → IsHeld tree.now.nodes frames.new set.new.all (t ++ entry_at place entry.now ∷ []) }
+    requires rooms { frames.old.rooms ≡ rooms_of tree.now.nodes }
+    requires moves { (t : List Entry) × IsStep tree.now.nodes frames.old.cells set.old.all t place entry.now }
+    ensures moved { (t : List Entry) → IsStep tree.now.nodes frames.old.cells set.old.all t place entry.now → IsHeld tree.now.nodes frames.new.cells set.new.all (t ++ entry_at place entry.now ∷ []) }
     ensures kept { set.new.classes ≡ set.old.classes }
-    ensures looks { (t : List Entry) → IsStep tree.now.nodes frames.old set.old.all t place entry.now → steps.new ≤ steps.old + looks (cells_of frames.old) (placed tree.now.nodes) (entry_at place entry.now) place }
+    ensures rooms { frames.new.rooms ≡ frames.old.rooms }
+    ensures looks { (t : List Entry) → IsStep tree.now.nodes frames.old.cells set.old.all t place entry.now → steps.new ≤ steps.old + looks (cells_of frames.old.cells) (placed tree.now.nodes) (entry_at place entry.now) place }
 {
     let Some(node) = look_at(tree, place, steps) else {
         return;
@@ -322,13 +323,4 @@ pub fn move_at<L: Ledger>(
         Kind::Work => move_step(tree, table, frames, set, place, elements, entry, steps),
         kind => move_leaf(tree, table, frames, set, place, kind, entry, steps),
     }
-}
-
-/// The index of the next element, where so many of so many are picked.
-fn next_index(picked: usize, count: usize) -> usize
-    requires { picked < count }
-    ensures same { result ≡ picked }
-    ensures below { result < 2 ^ 64 - 1 }
-{
-    picked
 }

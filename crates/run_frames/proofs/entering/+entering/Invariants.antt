@@ -14,5 +14,6 @@ decreases-enter_all g l = 2 * (length l.tree.now.nodes - l.place) - 1
 
 abbrev pub invariant-enter_all-loop-k : goal.invariant-enter_all-loop-k
 invariant-enter_all-loop-k g l =
-    AreEntered l.tree.nodes l.fn.frames l.frames l.fn.set.all l.set.all (to_execs (placed_all l.tree.nodes (levels_at l.table.rows.items l.place - 1) (drop l.k l.elements))) l.going × (l.set.classes ≡ l.fn.set.classes)
+    AreEntered l.tree.nodes l.fn.frames.cells l.frames.cells l.fn.set.all l.set.all (to_execs (placed_all l.tree.nodes (levels_at l.table.rows.items l.place - 1) (drop l.k l.elements))) l.going × (l.set.classes ≡ l.fn.set.classes)
     × (l.steps ≤ l.fn.steps + opening_each (to_execs (placed_all l.tree.nodes (levels_at l.table.rows.items l.place - 1) (drop l.k l.elements))))
+    × (l.frames.rooms ≡ l.fn.frames.rooms)

@@ -18,7 +18,7 @@ returns-clause-moved g c =
     let arena = c.args.tree.now.nodes in
     let rows = c.args.table.now.rows.items in
     let way = subst (λ (k : Continuation). IsWay arena rows k (onward (placed arena) Done c.args.place)) (sym c.after_at.ensures) (way_at arena rows c.args.place c.requires.table c.requires.distinct c.requires.inside) in
-    closed_by arena c.args.frames.now c.go_on.new.frames c.args.set.now.all c.remove.new.self.all c.go_on.new.set.all c.args.place c.remove.ensures.left (c.go_on.ensures.moved (onward (placed arena) Done c.args.place) way)
+    closed_by arena c.args.frames.now.cells c.go_on.new.frames.cells c.args.set.now.all c.remove.new.self.all c.go_on.new.set.all c.args.place c.remove.ensures.left (c.go_on.ensures.moved (onward (placed arena) Done c.args.place) way)
 
 pub returns-clause-looks : goal.returns-clause-looks
 returns-clause-looks g c =

@@ -12,13 +12,13 @@ returns-in-Some-clause-moved g c =
     let rows = c.args.table.now.rows.items in
     let levels = levels_at rows c.args.place - 1 in
     let to = subst (λ (o : Option ℕ). LeadsTo arena rows (placed_down arena levels c.args.element) o) c.in-Some.is c.element_into.ensures.leads in
-    opened_by arena rows c.args.frames.now c.enter_at.new.frames c.args.set.now.all c.remove.new.self.all c.enter_at.new.set.all c.args.place levels c.args.element c.in-Some.into c.remove.ensures.left to c.enter_at.ensures.moved
+    opened_by arena rows c.args.frames.now.cells c.enter_at.new.frames.cells c.args.set.now.all c.remove.new.self.all c.enter_at.new.set.all c.args.place levels c.args.element c.in-Some.into c.remove.ensures.left to c.enter_at.ensures.moved
 
 pub returns-in-None-clause-moved : goal.returns-in-None-clause-moved
 returns-in-None-clause-moved g c =
     let arena = c.args.tree.now.nodes in
     let rows = c.args.table.now.rows.items in
-    void_by arena rows c.args.frames.now c.args.set.now.all (levels_at rows c.args.place - 1) c.args.element c.element_into.result c.in-None.is c.element_into.ensures.leads c.requires.unpicked
+    void_by arena rows c.args.frames.now.cells c.args.set.now.all (levels_at rows c.args.place - 1) c.args.element c.element_into.result c.in-None.is c.element_into.ensures.leads c.requires.unpicked
 
 pub returns-in-Some-clause-looks : goal.returns-in-Some-clause-looks
 returns-in-Some-clause-looks g c =

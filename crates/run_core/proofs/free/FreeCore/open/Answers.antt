@@ -13,6 +13,7 @@ invariant_of-result c =
       one_each = ap length c.in_ok-actors.ensures.items ∙ sym (ap length z);
       few_actors = subst (All (λ (a : ℕ). a < 16)) (sym c.in_ok-actors.ensures.items) (λ k d l. absurd (omega (arith, l)));
       for_entries = c.in_ok-state.ensures.room;
+      alone = c.in_ok-state.ensures.coming;
       for_actors = c.in_ok-actors.ensures.capacity;
     }
 

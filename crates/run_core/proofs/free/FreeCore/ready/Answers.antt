@@ -3,7 +3,7 @@ use Rattle.std.specs.Prelude.{Some, option_map}
 use Rattle.tree_table.specs.Placed.{number_at}
 use Rattle.run_law.specs.Replay.{ready}
 use Rattle.project_law.specs.ProjectRules.{rules_of}
-use Rattle.run_core.proofs.CoreLemmas.{ready_has}
+use Rattle.run_state.proofs.FoundLemmas.{ready_has}
 use Rattle.run_core.proofs.free.FreeCore.ready.Goals as goal
 
 pub action-requires-clause-next : goal.action-requires-clause-next

@@ -1,14 +1,11 @@
 use Rattle.std.proofs.Common.{◌≤◌, ◌+◌, refl, arith, ◌∙◌, ◌++◌, ◌∷◌, [], ap, sym, subst, List, ℕ, length}
-use Rattle.std.specs.Vec.{with_items}
 use Rattle.exec_tree.specs.Walked.{place_from}
 use Rattle.frame_law.specs.Looks.{looks}
 use Rattle.tree_table.specs.Placed.{placed, number_at}
-use Rattle.run_frames.specs.declared.frame.Frame.{Frame}
 use Rattle.run_frames.specs.Frames.{cells_of}
 use Rattle.run_frames.specs.Renaming.{entry_at}
-use Rattle.run_frames.specs.Held.{IsHeld, IsStep}
-use Rattle.run_frames.proofs.WriteLemmas.{refilled}
-use Rattle.run_frames.proofs.StandLemmas.{AreOfTree, placed_once, entry_place, step_by, order_is, at_more}
+use Rattle.run_frames.specs.Held.{IsHeld}
+use Rattle.run_frames.proofs.StandLemmas.{AreOfTree, placed_once, entry_place, step_by, at_more}
 use Rattle.place_classes.specs.declared.class.Class.{Class}
 use Rattle.run_frames.proofs.ReadyLemmas.{sorted_more, classed_moved, classes_moved, place_within}
 use Rattle.run_frames.proofs.LookLemmas.{up_to}
@@ -27,10 +24,9 @@ move_at-requires-clause-moves g c =
     let p = c.args.place in
     let run = c.requires.at in
     let own = entry_place arena self run.0 x p tree run.1 run.2 c.requires.place in
-    let order = order_is arena self run.0 x p own.0 tree run.1 run.3 own.2 own.1 in
-    let step = step_by arena self run.0 x p own.0 tree run.1 run.2 order own.2 own.1 in (
+    let step = step_by arena self run.0 x p own.0 tree run.1 run.2 own.2 own.1 in (
       run.1.entries,
-      subst (λ (l : List Frame). IsStep arena l self.set.all run.1.entries p x) (sym c.as_mut_slice.ensures.value) step,
+      step,
     )
 
 pub sort_by-requires-clause-there : goal.sort_by-requires-clause-there
@@ -70,16 +66,11 @@ returns-clause-at g c = λ t at q.
     let x = c.args.entry.now in
     let p = c.args.place in
     let run = c.requires.at in
-    let before = entry_place arena self run.0 x p tree run.1 run.2 c.requires.place in
-    let order = order_is arena self run.0 x p before.0 tree run.1 run.3 before.2 before.1 in
     let own = entry_place arena self t x p tree at q c.requires.place in
-    let step = step_by arena self t x p own.0 tree at q order own.2 own.1 in
-    let held = c.move_at.ensures.moved at.entries (subst (λ (l : List Frame). IsStep arena l self.set.all at.entries p x) (sym c.as_mut_slice.ensures.value) step) in
-    let same = refilled self.frames c.move_at.new.frames (held.room ∙ sym at.held.room) in
-    let whole = with_items self.frames c.move_at.new.frames in
-    at_more arena self (record { frames = whole; table = self.table; set = c.sort_by.new.set; waits = self.waits }) t x p own.0 at q own.2 own.1
-    (subst (λ (w : List ℕ). IsHeld arena whole.items w (at.entries ++ entry_at p x ∷ [])) (sym c.sort_by.ensures.all)
-    (subst (λ (l : List Frame). IsHeld arena l c.move_at.new.set.all (at.entries ++ entry_at p x ∷ [])) (sym same) held)) at.table
+    let step = step_by arena self t x p own.0 tree at q own.2 own.1 in
+    let held = c.move_at.ensures.moved at.entries step in
+    at_more arena self (record { frames = c.move_at.new.frames; table = self.table; set = c.sort_by.new.set; waits = self.waits }) t x p own.0 at q own.2 own.1
+    (subst (λ (w : List ℕ). IsHeld arena c.move_at.new.frames.cells w (at.entries ++ entry_at p x ∷ [])) (sym c.sort_by.ensures.all) held) (c.move_at.ensures.rooms ∙ at.rooms) at.table
     (classed_moved c.args.tree.now x (number_at arena p) p (length arena) self.set.classes c.move_at.new.set.classes c.sort_by.new.set.classes c.sort_by.ensures.classes c.move_at.ensures.kept at.classed)
 
 pub returns-clause-sorted : goal.returns-clause-sorted
@@ -90,7 +81,7 @@ returns-clause-sorted g c = λ t released at q sorted.
     let x = c.args.entry.now in
     let p = c.args.place in
     let own = entry_place arena self t x p tree at q c.requires.place in
-    sorted_more c.args.tree.now self (record { frames = with_items self.frames c.move_at.new.frames; table = self.table; set = c.sort_by.new.set; waits = self.waits }) t at.entries x released own.0 p tree own.2 own.1 at.classed sorted
+    sorted_more c.args.tree.now self (record { frames = c.move_at.new.frames; table = self.table; set = c.sort_by.new.set; waits = self.waits }) t at.entries x released own.0 p tree own.2 own.1 at.classed sorted
     (classes_moved c.args.tree.now x (number_at arena p) own.0 p self.set.classes c.move_at.new.set.classes c.sort_by.new.set.classes c.sort_by.ensures.classes c.move_at.ensures.kept own.2.is_number) refl
 
 pub returns-clause-looks : goal.returns-clause-looks
@@ -101,12 +92,9 @@ returns-clause-looks g c = λ t at q v.
     let x = c.args.entry.now in
     let p = c.args.place in
     let run = c.requires.at in
-    let before = entry_place arena self run.0 x p tree run.1 run.2 c.requires.place in
-    let order = order_is arena self run.0 x p before.0 tree run.1 run.3 before.2 before.1 in
     let own = entry_place arena self t x p tree at q c.requires.place in
-    let step = step_by arena self t x p own.0 tree at q order own.2 own.1 in
-    let few = c.move_at.ensures.looks at.entries (subst (λ (l : List Frame). IsStep arena l self.set.all at.entries p x) (sym c.as_mut_slice.ensures.value) step) in
-    let here = subst (λ (l : List Frame). c.move_at.new.steps ≤ c.args.steps.now + looks (cells_of l) (placed arena) (entry_at p x) p) c.as_mut_slice.ensures.value few in
-    let moved = up_to _ _ (looks (cells_of self.frames.items) (placed arena) (entry_at p x) p) _ here (looks_by_numbers arena self t x p own.0 tree at q own.2 own.1 v) in
+    let step = step_by arena self t x p own.0 tree at q own.2 own.1 in
+    let few = c.move_at.ensures.looks at.entries step in
+    let moved = up_to _ _ (looks (cells_of self.frames.cells) (placed arena) (entry_at p x) p) _ few (looks_by_numbers arena self t x p own.0 tree at q own.2 own.1 v) in
     let sorted = c.sort_by.ensures.looks in
     omega (arith, moved, sorted)

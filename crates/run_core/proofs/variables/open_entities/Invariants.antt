@@ -1,5 +1,0 @@
-use Rattle.run_core.specs.Opening.{AreOpening}
-use Rattle.run_core.proofs.variables.open_entities.Given as goal
-
-abbrev pub invariant-loop-i : goal.invariant-loop-i
-invariant-loop-i l = AreOpening l.store l.i l.pairs.items
