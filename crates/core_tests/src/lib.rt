@@ -1,6 +1,8 @@
-//! Tests of runs: run_core and run_state, over projects that are read from text, and what run_law says of runs.
+//! Tests of runs: run_core, run_state and log_check, over projects that are read from text, and what run_law says of runs.
 #![tactic(auto)]
 
+#[cfg(test)]
+mod checks;
 #[cfg(test)]
 mod edits;
 #[cfg(test)]

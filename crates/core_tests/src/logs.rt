@@ -3,6 +3,7 @@
 //! In a table the entries are parted by ` / `, and the log's last line stands behind them. `step 10` stands for all eight entries of a workingstep
 //! 10 that drills the hole `#150,#120,#130`, and `b 10 3` for its block 3.
 
+use crate::checks::expect_legal;
 use crate::projects::{project, script};
 use edit_rules::Project;
 use entity_types::Script;
@@ -152,7 +153,7 @@ pub(crate) fn expect_text(
     Ok(())
 }
 
-/// Stops unless the run of these instances, of this text of a script and of this schedule gives this log.
+/// Stops unless the run of these instances, of this text of a script and of this schedule gives this log, which is judged legal with its ending.
 pub(crate) fn expect_run(
     rt: &impl Abort,
     alloc: Global,
@@ -166,7 +167,8 @@ pub(crate) fn expect_run(
     let project = project(rt, alloc, data)?;
     let script = script(rt, alloc, edits)?;
     let (log, ending) = ran(rt, alloc, project, script, limit, schedule)?;
-    expect_text(rt, alloc, &log, ending, wanted, place)
+    expect_text(rt, alloc, &log, ending, wanted, place)?;
+    expect_legal(rt, alloc, data, edits, log, ending, place)
 }
 
 /// These entries as a log.
