@@ -46,12 +46,14 @@ def random_words(r, names, steps, may_loop):
     """The words of a command for the files of these names, project, script and schedule; a few of them are faulty."""
     file_name, script_name, schedule_name = names
     if r.random() < 0.02:
-        pool = ["replay", "path", "big", "--help", "--version", "-", "", "0", "1", "007", "1001", "2000000", "2000001", "9999999", "10000000",
+        pool = ["replay", "path", "big", "check", "--help", "--version", "-", "", "0", "1", "007", "1001", "2000000", "2000001", "9999999", "10000000",
                 "2147483647", "2147483648", "run", *names, "X", "\udcff", "+5", "5 ", "-1", "99999999999"]
-        begin = r.choice([[], ["replay", file_name], ["replay", file_name, "-", "-"], ["replay", file_name, script_name], ["path", file_name], ["big"], ["big", "2"], ["--help"]])
+        begin = r.choice([[], ["replay", file_name], ["replay", file_name, "-", "-"], ["replay", file_name, script_name], ["path", file_name], ["big"], ["big", "2"], ["check", file_name], ["check", file_name, script_name], ["--help"]])
         return begin + [r.choice(pool) for _ in range(r.randrange(4))]
     if r.random() < 0.01:
         return ["big", str(r.choice([1, 2, 3, r.randint(1, 12), r.randint(10, 60)])), str(r.choice([0, 7, 9_999_999] + [r.randint(0, 9_999_999) for _ in range(3)]))]
+    if r.random() < 0.02:  # the schedule's file, or the project's, in the place of a log: mostly refused
+        return ["check", file_name, r.choice([script_name, "-"]), r.choice([schedule_name, file_name, "missing.log"])]
     if r.random() < 0.8:
         script = script_name if r.random() < 0.75 else "-"
         return ["replay", file_name, script, schedule_name if r.random() < 0.7 else "-", str(random_limit(r, may_loop))]

@@ -10,6 +10,7 @@ from pathlib import Path
 
 import big_case
 import edits
+import logs
 import runs
 
 FORMATS = Path(__file__).resolve().parent.parent / "docs" / "FORMATS.md"
@@ -28,7 +29,8 @@ MOST_NODES = 65_535
 MOST_EXPRESSION = 1_000
 MOST_CHANNELS = 8
 
-DONE, BLOCKED, RUN_LIMIT, BAD_WORDS, PROJECT_REFUSED, SCRIPT_REFUSED, READ_FAULT = 0, 1, 2, 3, 4, 5, 7
+DONE, BLOCKED, RUN_LIMIT, BAD_WORDS, PROJECT_REFUSED, SCRIPT_REFUSED, LOG_REFUSED, READ_FAULT = 0, 1, 2, 3, 4, 5, 6, 7
+MOST_LOG_BYTES = 268_435_456
 
 
 class Refused(Exception):
@@ -1019,6 +1021,33 @@ def run(tree, steps, script, schedule, limit):
     return status, "".join(line + "\n" for line in ["STEPNC-LOG 1"] + entries + [f"end {word} {len(entries)}"])
 
 
+def check(project, words, read):
+    """Status and text of a check: the script is read once the project is accepted, and the log once the script is."""
+    script, log = (b"" if word == "-" and place == 2 else read(word) for place, word in enumerate(words[2:4], 2))
+    if script is None:
+        return READ_FAULT, b""
+    try:
+        edits_of_script = script_of(script)
+    except Refused as refusal:
+        return SCRIPT_REFUSED, refusal.line.encode()
+    if log is None:
+        return READ_FAULT, b""
+    try:
+        if len(log) > MOST_LOG_BYTES:
+            raise Refused("TooLong")
+        entries, word = logs.read(log, Refused)
+    except Refused as refusal:
+        return LOG_REFUSED, refusal.line.encode()
+    said = judged(*project, edits_of_script, entries, word)
+    return (DONE if said.startswith("legal") else LOG_REFUSED), (said + "\n").encode()
+
+
+def judged(tree, steps, script, entries, word):
+    """What a check says of a log that was read."""
+    run_of = runs.Run(tree.store, tree.root(), lambda store, number: path(definition(store, number)), None, revisions_of(tree, script))
+    return logs.judge(run_of, entries, word)
+
+
 def big(steps, start):
     """The line of counts of a large case: its project, run under its script with no schedule, up to the greatest log."""
     project, script = (text.encode() for text in big_case.texts(steps, start))
@@ -1065,6 +1094,7 @@ def is_file_name(word):
 LINES = [
     [lambda word: word == "replay", is_file_name, is_file_name, is_file_name, is_limit],
     [lambda word: word == "path", is_file_name, is_step_number],
+    [lambda word: word == "check", is_file_name, is_file_name, is_file_name],
     [lambda word: word == "big", is_step_count, is_start],
     [lambda word: word == "--help"],
     [lambda word: word == "--version"],
@@ -1124,6 +1154,8 @@ def answer(words, read):
         tree, steps = accepted(data)
         if words[0] == "replay":
             return replay((tree, steps), words, read)
+        if words[0] == "check":
+            return check((tree, steps), words, read)
         if int(words[2]) not in steps:
             raise Refused("NoStep", int(words[2]))
         return DONE, "".join(block + "\n" for block in path(steps[int(words[2])])).encode()

@@ -141,6 +141,10 @@ class Frame:
     def first(self, channel):
         return self if self.node.channel == channel and self.is_enabled() else None
 
+    def fronts(self):
+        """The frames in which the run can go on, enabled or not: this one, or those of what runs in it."""
+        return self.inside.fronts() if getattr(self, "inside", None) else [self]
+
     def is_enabled(self):
         return True
 
@@ -191,6 +195,10 @@ class Parallel(Frame):
         if self.left == 0:
             self.leave()
 
+    def fronts(self):
+        branches = {id(frame): frame for frames in self.of_channel.values() for frame in frames if not frame.is_over}
+        return [front for frame in branches.values() for front in frame.fronts()]
+
     def first(self, channel):
         frames, passed, found = self.of_channel.get(channel, []), 0, None
         for frame in frames:
@@ -204,18 +212,25 @@ class Parallel(Frame):
 
 
 class NonSequential(Frame):
-    """All elements run, one at a time; the least that hasn't run is picked."""
+    """All elements run, one at a time, in any order; a turn picks the least that hasn't run."""
 
     def __init__(self, run, node, above):
         super().__init__(run, node, above)
-        self.picked, self.inside = 0, None
+        self.left, self.least, self.inside = set(range(len(node.parts))), 0, None
 
     def first(self, channel):
         return self.inside.first(channel) if self.inside else super().first(channel)
 
     def act(self):
-        at = self.picked
-        self.picked += 1
+        while self.least not in self.left:
+            self.least += 1
+        return self.pick(self.least)
+
+    def may_pick(self, at):
+        return at in self.left
+
+    def pick(self, at):
+        self.left.remove(at)
         self.inside = self.begin(self.node.parts[at])
         if not self.inside:
             self.part_is_over()
@@ -223,12 +238,12 @@ class NonSequential(Frame):
 
     def part_is_over(self):
         self.inside = None
-        if self.picked == len(self.node.parts):
+        if not self.left:
             self.leave()
 
 
 class Choice(Frame):
-    """One of the parts runs: of a selective the first, of an if the one that its condition says."""
+    """One of the parts runs: of a selective any, and in a turn the first; of an if the one that its condition says."""
 
     def __init__(self, run, node, above):
         super().__init__(run, node, above)
@@ -239,15 +254,22 @@ class Choice(Frame):
 
     def act(self):
         if self.node.code == SELECTIVE:
-            at, line = 0, f"P {self.node.number} 0"
-        else:
-            holds = self.run.holds(self.node)
-            at, line = 0 if holds else 1, f"T {self.node.number} {int(holds)}"
-        part = self.node.parts[at]
+            return self.pick(0)
+        holds = self.run.holds(self.node)
+        self.take(self.node.parts[0 if holds else 1])
+        return f"T {self.node.number} {int(holds)}"
+
+    def may_pick(self, at):
+        return at < len(self.node.parts)
+
+    def pick(self, at):
+        self.take(self.node.parts[at])
+        return f"P {self.node.number} {at}"
+
+    def take(self, part):
         self.inside = self.begin(part) if part else None
         if not self.inside:
             self.leave()
-        return line
 
     def part_is_over(self):
         self.leave()
@@ -372,6 +394,36 @@ class Run:
             return False
         self.entries.append(frame.act())
         return True
+
+    def follow(self, line):
+        """Goes on with an entry of a log, where it fits: whether it does. Where it doesn't, the run is of no more use."""
+        if line[0] == "X":
+            fits = self.is_due() and line == self.revisions.judge(self.sent)
+        else:
+            fits = not self.is_due() and self.follow_node(line)
+        self.entries.append(line)
+        return fits
+
+    def follow_node(self, line):
+        """Goes on with an entry of a node, where one of its number can go on: whether it is what that node does."""
+        words = line.split()
+        for frame in [] if self.root.is_over else self.root.fronts():
+            if frame.node.number == int(words[1]) and frame.is_enabled():
+                if words[0] != "P":
+                    return line == frame.act()
+                if not hasattr(frame, "may_pick") or frame.node.code == IF or not frame.may_pick(int(words[2])):
+                    return False
+                return line == frame.pick(int(words[2]))
+        return False
+
+    def own_ending(self):
+        """The ending that is the log's own, whatever the limit was, or None."""
+        if self.revisions.next_at() is None:
+            if self.root.is_over:
+                return DONE
+            if all(front.node.code == WAIT and not front.is_enabled() for front in self.root.fronts()):
+                return BLOCKED
+        return RUN_LIMIT if self.entries else None
 
     def ending(self):
         """How the run ends, where no turn of any channel makes an entry any more."""

@@ -19,9 +19,10 @@ use Rattle.controller.specs.declared.unheld.Unheld.TheVariants as unheld
 use Rattle.controller.specs.Words.{is_hyphen}
 use Rattle.controller.specs.ScriptText.{ScriptedBy, RefusesScript}
 use Rattle.controller.specs.ScheduleText.{ScheduledBy, RefusesSchedule}
+use Rattle.controller.specs.LogFile.{HoldsNoLog}
 use Rattle.controller.specs.Asked.{replayed}
 use Rattle.controller.specs.Case.{case_project, case_script}
-use Rattle.controller.specs.Calls.{ReadsFile, ReadsProject, ReadsEdits, ReadsScript, ReadsSchedule, OrRunStops, Runs, OrReplayStops, Replays, CountsCase, OrNoMemory, answer_without}
+use Rattle.controller.specs.Calls.{ReadsFile, ReadsProject, ReadsEdits, ReadsScript, ReadsSchedule, OrRunStops, Runs, OrReplayStops, Replays, CountsCase, OrNoMemory, OrStops, ReadsLog, Judges, OrCheckStops, Checks, answer_without}
 
 -- a count that rose behind stretches in which it didn't fall rose over the whole
 rose_later : (a b c : ℕ) → a ≤ b → Rose b c → Rose a c
@@ -44,6 +45,7 @@ pub unscheduled : (holds : List ℕ → Option (List ℕ)) (before now : ℕ) (s
     → OrRunStops schedule before now (Runs holds (model_of p) edits schedule limit) (answer_without why)
 unscheduled holds before now schedule limit p edits (unheld.Refused reason) is = absurd is
 unscheduled holds before now schedule limit p edits (unheld.ScriptRefused reason) is = is
+unscheduled holds before now schedule limit p edits (unheld.LogRefused reason) is = absurd is
 unscheduled holds before now schedule limit p edits (unheld.Stopped stop) is = is
 
 -- the names hold behind the reads what they held before them
@@ -80,6 +82,9 @@ run_of_files holds read held before mid late now name script schedule limit p ed
 run_of_files holds read held before mid late now name script schedule limit p edits (Ok (answers.Refused reason)) file kept scripted same first second is = absurd is
 run_of_files holds read held before mid late now name script schedule limit p edits (Ok (answers.Shown d)) file kept scripted same first second is = absurd is
 run_of_files holds read held before mid late now name script schedule limit p edits (Ok (answers.Counted n from ending counts)) file kept scripted same first second is = absurd is
+run_of_files holds read held before mid late now name script schedule limit p edits (Ok (answers.Legal ending)) file kept scripted same first second is = absurd is
+run_of_files holds read held before mid late now name script schedule limit p edits (Ok (answers.Illegal place)) file kept scripted same first second is = absurd is
+run_of_files holds read held before mid late now name script schedule limit p edits (Ok (answers.LogRefused reason)) file kept scripted same first second is = absurd is
 run_of_files holds read held before mid late now name script schedule limit p edits (Err stops.ReadFault) file kept scripted same first second is =
     inr (inr (is.0, rose_later (before schedule) (late schedule) (now schedule) (le_later (before schedule) (mid schedule) (late schedule) first second) is.1))
 run_of_files holds read held before mid late now name script schedule limit p edits (Err stops.NoMemory) file kept scripted same first second is = tt
@@ -94,6 +99,7 @@ unscripted holds read before mid now name script schedule limit p (unheld.Script
   held_project (holds name) (before name) (mid name) p file,
   inl (record { named = is.named; refused = subst (λ (o : Option (List ℕ)). IfSome o (λ bytes. RefusesScript bytes reason)) kept is.refused }),
 )
+unscripted holds read before mid now name script schedule limit p (unheld.LogRefused reason) file kept counted is = absurd is
 unscripted holds read before mid now name script schedule limit p (unheld.Stopped stops.ReadFault) file kept counted is =
     inr (inl (is.0, rose_later (before script) (mid script) (now script) counted is.1))
 unscripted holds read before mid now name script schedule limit p (unheld.Stopped stops.NoMemory) file kept counted is = tt
@@ -107,5 +113,66 @@ case_unscripted steps start text script p (unheld.ScriptRefused reason) made is 
   subst (λ (bytes : List ℕ). Holds bytes (model_of p)) made is,
   subst (λ (bytes : List ℕ). RefusesScript bytes reason) written refused,
 )
+case_unscripted steps start text script p (unheld.LogRefused reason) made is written refused = absurd refused
 case_unscripted steps start text script p (unheld.Stopped stops.ReadFault) made is written refused = absurd refused
 case_unscripted steps start text script p (unheld.Stopped stops.NoMemory) made is written refused = tt
+
+-- no judgement, for want of a log
+pub unlogged : (held : Option (List ℕ)) (before now : ℕ) (p : List Entity) (edits : List Edit) (why : Unheld) → ReadsLog held before now (Err why) → OrStops before now (Judges held (model_of p) edits) (answer_without why)
+unlogged held before now p edits (unheld.Refused reason) is = absurd is
+unlogged held before now p edits (unheld.ScriptRefused reason) is = absurd is
+unlogged held before now p edits (unheld.LogRefused reason) is = is
+unlogged held before now p edits (unheld.Stopped stop) is = is
+
+-- what came of the log came of the check, where the project and the script were read before it
+pub check_of_files : (holds read held : List ℕ → Option (List ℕ)) (before mid late now : List ℕ → ℕ) (name script log : List ℕ) (p : List Entity) (edits : List Edit) (r : Result Answer Stop)
+    → ReadsFile (holds name) (before name) (mid name) (Ok p) → read script ≡ holds script → ReadsScript read script (mid script) (late script) (Ok edits)
+    → held log ≡ holds log → before log ≤ mid log → mid log ≤ late log → OrStops (late log) (now log) (Judges (held log) (model_of p) edits) r
+    → OrCheckStops name script log before now (Checks holds name script log) r
+check_of_files holds read held before mid late now name script log p edits (Ok (answers.Legal ending)) file kept scripted same first second is = (
+  model_of p,
+  held_project (holds name) (before name) (mid name) p file,
+  edits,
+  scripted_before (read script) (holds script) (is_hyphen script) edits kept scripted,
+  subst (λ (o : Option (List ℕ)). Judges o (model_of p) edits (answers.Legal ending)) same is,
+)
+check_of_files holds read held before mid late now name script log p edits (Ok (answers.Illegal place)) file kept scripted same first second is = (
+  model_of p,
+  held_project (holds name) (before name) (mid name) p file,
+  edits,
+  scripted_before (read script) (holds script) (is_hyphen script) edits kept scripted,
+  subst (λ (o : Option (List ℕ)). Judges o (model_of p) edits (answers.Illegal place)) same is,
+)
+check_of_files holds read held before mid late now name script log p edits (Ok (answers.LogRefused reason)) file kept scripted same first second is = (
+  model_of p,
+  held_project (holds name) (before name) (mid name) p file,
+  edits,
+  scripted_before (read script) (holds script) (is_hyphen script) edits kept scripted,
+  subst (λ (o : Option (List ℕ)). HoldsNoLog o reason) same is,
+)
+check_of_files holds read held before mid late now name script log p edits (Ok (answers.BadWords place)) file kept scripted same first second is = absurd is
+check_of_files holds read held before mid late now name script log p edits (Ok answers.Help) file kept scripted same first second is = absurd is
+check_of_files holds read held before mid late now name script log p edits (Ok answers.Version) file kept scripted same first second is = absurd is
+check_of_files holds read held before mid late now name script log p edits (Ok (answers.Refused reason)) file kept scripted same first second is = absurd is
+check_of_files holds read held before mid late now name script log p edits (Ok (answers.ScriptRefused reason)) file kept scripted same first second is = absurd is
+check_of_files holds read held before mid late now name script log p edits (Ok (answers.Ran t ending)) file kept scripted same first second is = absurd is
+check_of_files holds read held before mid late now name script log p edits (Ok (answers.Shown d)) file kept scripted same first second is = absurd is
+check_of_files holds read held before mid late now name script log p edits (Ok (answers.Counted n from ending counts)) file kept scripted same first second is = absurd is
+check_of_files holds read held before mid late now name script log p edits (Err stops.ReadFault) file kept scripted same first second is =
+    inr (inr (rose_later (before log) (late log) (now log) (le_later (before log) (mid log) (late log) first second) is))
+check_of_files holds read held before mid late now name script log p edits (Err stops.NoMemory) file kept scripted same first second is = tt
+
+-- no check, for want of a script
+pub check_unscripted : (holds read : List ℕ → Option (List ℕ)) (before mid now : List ℕ → ℕ) (name script log : List ℕ) (p : List Entity) (why : Unheld)
+    → ReadsFile (holds name) (before name) (mid name) (Ok p) → read script ≡ holds script → before script ≤ mid script → ReadsScript read script (mid script) (now script) (Err why)
+    → OrCheckStops name script log before now (Checks holds name script log) (answer_without why)
+check_unscripted holds read before mid now name script log p (unheld.Refused reason) file kept counted is = absurd is
+check_unscripted holds read before mid now name script log p (unheld.ScriptRefused reason) file kept counted is = (
+  model_of p,
+  held_project (holds name) (before name) (mid name) p file,
+  record { named = is.named; refused = subst (λ (o : Option (List ℕ)). IfSome o (λ bytes. RefusesScript bytes reason)) kept is.refused },
+)
+check_unscripted holds read before mid now name script log p (unheld.LogRefused reason) file kept counted is = absurd is
+check_unscripted holds read before mid now name script log p (unheld.Stopped stops.ReadFault) file kept counted is =
+    inr (inl (is.0, rose_later (before script) (mid script) (now script) counted is.1))
+check_unscripted holds read before mid now name script log p (unheld.Stopped stops.NoMemory) file kept counted is = tt

@@ -10,7 +10,7 @@ use Rattle.run_log.specs.declared.entry.TheConstants.{MAX_ENTRIES}
 use Rattle.big_case.specs.declared.workplans.TheConstants.{MAX_STEPS}
 use Rattle.controller.specs.declared.command.TheConstants.{LIMIT_DIGITS, CASE_DIGITS, MAX_START}
 use Rattle.controller.specs.Numerals.{value_of, is_number}
-use Rattle.controller.specs.Words.{Form, begins, is_line, AreBadAt, is_name, is_limit, is_step, is_steps, is_start, replay_line, path_line, big_line, help_line, version_line, IsReplay, IsPath, IsBig}
+use Rattle.controller.specs.Words.{Form, begins, is_line, AreBadAt, is_name, is_limit, is_step, is_steps, is_start, replay_line, path_line, big_line, check_line, help_line, version_line, IsReplay, IsPath, IsBig, IsCheck}
 use Rattle.controller.specs.Commands.{is_some_of, has_word, HasWord}
 
 -- the word is of the form that stands there, if one does
@@ -87,84 +87,91 @@ not_line ws forms n fit differ =
     fewer : (n m : ℕ) → n ≤ m → (n < m) ⊎ (n ≡ m)
     fewer n m le = grind arith
 
-pub none_of : (a b c d f : Bool) → a ≡ false → b ≡ false → c ≡ false → d ≡ false → f ≡ false → (a || (b || (c || (d || (f || false))))) ≡ false
-none_of a b c d f p q r t u = rw (p, q, r, t, u) refl
+pub none_of : (a b c k d f : Bool) → a ≡ false → b ≡ false → c ≡ false → k ≡ false → d ≡ false → f ≡ false → (a || (b || (c || (k || (d || (f || false)))))) ≡ false
+none_of a b c k d f p q r m t u = rw (p, q, r, m, t, u) refl
 
--- one of five tests holds
-abbrev pub OneHolds : Bool → Bool → Bool → Bool → Bool → Type 0
-OneHolds a b c d f = (a ≡ true) ⊎ ((b ≡ true) ⊎ ((c ≡ true) ⊎ ((d ≡ true) ⊎ (f ≡ true))))
+-- one of six tests holds
+abbrev pub OneHolds : Bool → Bool → Bool → Bool → Bool → Bool → Type 0
+OneHolds a b c k d f = (a ≡ true) ⊎ ((b ≡ true) ⊎ ((c ≡ true) ⊎ ((k ≡ true) ⊎ ((d ≡ true) ⊎ ((f ≡ true))))))
 
-pub some_of : (a b c d f : Bool) → OneHolds a b c d f → (a || (b || (c || (d || (f || false))))) ≡ true
-some_of true b c d f e = refl
-some_of false true c d f e = refl
-some_of false false true d f e = refl
-some_of false false false true f e = refl
-some_of false false false false true e = refl
-some_of false false false false false (inl e) = absurd (cc)
-some_of false false false false false (inr (inl e)) = absurd (cc)
-some_of false false false false false (inr (inr (inl e))) = absurd (cc)
-some_of false false false false false (inr (inr (inr (inl e)))) = absurd (cc)
-some_of false false false false false (inr (inr (inr (inr e)))) = absurd (cc)
+pub some_of : (a b c k d f : Bool) → OneHolds a b c k d f → (a || (b || (c || (k || (d || (f || false)))))) ≡ true
+some_of true b c k d f e = refl
+some_of false true c k d f e = refl
+some_of false false true k d f e = refl
+some_of false false false true d f e = refl
+some_of false false false false true f e = refl
+some_of false false false false false true e = refl
+some_of false false false false false false (inl e) = absurd (cc)
+some_of false false false false false false (inr (inl e)) = absurd (cc)
+some_of false false false false false false (inr (inr (inl e))) = absurd (cc)
+some_of false false false false false false (inr (inr (inr (inl e)))) = absurd (cc)
+some_of false false false false false false (inr (inr (inr (inr (inl e))))) = absurd (cc)
+some_of false false false false false false (inr (inr (inr (inr (inr e))))) = absurd (cc)
 
--- so many words begin each of the five lines, no more of them do, and none of the lines is whole
-record FitAll (ws : List (List ℕ)) (a b c d f : ℕ) : Type 0 where
+-- so many words begin each of the six lines, no more of them do, and none of the lines is whole
+record FitAll (ws : List (List ℕ)) (a b c k d f : ℕ) : Type 0 where
   replay : AreFit ws replay_line a
   path : AreFit ws path_line b
   big : AreFit ws big_line c
+  check : AreFit ws check_line k
   help : AreFit ws help_line d
   version : AreFit ws version_line f
   no_replay : is_line ws replay_line ≡ false
   no_path : is_line ws path_line ≡ false
   no_big : is_line ws big_line ≡ false
+  no_check : is_line ws check_line ≡ false
   no_help : is_line ws help_line ≡ false
   no_version : is_line ws version_line ≡ false
 
--- n is the greatest of five numbers
-record IsMost (n a b c d f : ℕ) : Type 0 where
+-- n is the greatest of six numbers
+record IsMost (n a b c k d f : ℕ) : Type 0 where
   le_a : a ≤ n
   le_b : b ≤ n
   le_c : c ≤ n
+  le_k : k ≤ n
   le_d : d ≤ n
   le_f : f ≤ n
-  which : (n ≡ a) ⊎ ((n ≡ b) ⊎ ((n ≡ c) ⊎ ((n ≡ d) ⊎ (n ≡ f))))
+  which : (n ≡ a) ⊎ ((n ≡ b) ⊎ ((n ≡ c) ⊎ ((n ≡ k) ⊎ ((n ≡ d) ⊎ ((n ≡ f))))))
 
-most_within : (ws : List (List ℕ)) (a b c d f n : ℕ) → FitAll ws a b c d f → (n ≡ a) ⊎ ((n ≡ b) ⊎ ((n ≡ c) ⊎ ((n ≡ d) ⊎ (n ≡ f)))) → n ≤ length ws
-most_within ws a b c d f n fit (inl e) = omega (arith, fit.replay.within)
-most_within ws a b c d f n fit (inr (inl e)) = omega (arith, fit.path.within)
-most_within ws a b c d f n fit (inr (inr (inl e))) = omega (arith, fit.big.within)
-most_within ws a b c d f n fit (inr (inr (inr (inl e)))) = omega (arith, fit.help.within)
-most_within ws a b c d f n fit (inr (inr (inr (inr e)))) = omega (arith, fit.version.within)
+most_within : (ws : List (List ℕ)) (a b c k d f n : ℕ) → FitAll ws a b c k d f → (n ≡ a) ⊎ ((n ≡ b) ⊎ ((n ≡ c) ⊎ ((n ≡ k) ⊎ ((n ≡ d) ⊎ ((n ≡ f)))))) → n ≤ length ws
+most_within ws a b c k d f n fit (inl e) = omega (arith, fit.replay.within)
+most_within ws a b c k d f n fit (inr (inl e)) = omega (arith, fit.path.within)
+most_within ws a b c k d f n fit (inr (inr (inl e))) = omega (arith, fit.big.within)
+most_within ws a b c k d f n fit (inr (inr (inr (inl e)))) = omega (arith, fit.check.within)
+most_within ws a b c k d f n fit (inr (inr (inr (inr (inl e))))) = omega (arith, fit.help.within)
+most_within ws a b c k d f n fit (inr (inr (inr (inr (inr e))))) = omega (arith, fit.version.within)
 
 begun_at : (ws : List (List ℕ)) (forms : List Form) (n m : ℕ) → n ≡ m → begins (take m ws) forms ≡ true → begins (take n ws) forms ≡ true
 begun_at ws forms n m e begun = rw e begun
 
-most_begun : (ws : List (List ℕ)) (a b c d f n : ℕ) → FitAll ws a b c d f → (n ≡ a) ⊎ ((n ≡ b) ⊎ ((n ≡ c) ⊎ ((n ≡ d) ⊎ (n ≡ f))))
-    → OneHolds (begins (take n ws) replay_line) (begins (take n ws) path_line) (begins (take n ws) big_line) (begins (take n ws) help_line) (begins (take n ws) version_line)
-most_begun ws a b c d f n fit (inl e) = inl (begun_at ws replay_line n a e fit.replay.begun)
-most_begun ws a b c d f n fit (inr (inl e)) = inr (inl (begun_at ws path_line n b e fit.path.begun))
-most_begun ws a b c d f n fit (inr (inr (inl e))) = inr (inr (inl (begun_at ws big_line n c e fit.big.begun)))
-most_begun ws a b c d f n fit (inr (inr (inr (inl e)))) = inr (inr (inr (inl (begun_at ws help_line n d e fit.help.begun))))
-most_begun ws a b c d f n fit (inr (inr (inr (inr e)))) = inr (inr (inr (inr (begun_at ws version_line n f e fit.version.begun))))
+most_begun : (ws : List (List ℕ)) (a b c k d f n : ℕ) → FitAll ws a b c k d f → (n ≡ a) ⊎ ((n ≡ b) ⊎ ((n ≡ c) ⊎ ((n ≡ k) ⊎ ((n ≡ d) ⊎ ((n ≡ f))))))
+    → OneHolds (begins (take n ws) replay_line) (begins (take n ws) path_line) (begins (take n ws) big_line) (begins (take n ws) check_line) (begins (take n ws) help_line) (begins (take n ws) version_line)
+most_begun ws a b c k d f n fit (inl e) = inl (begun_at ws replay_line n a e fit.replay.begun)
+most_begun ws a b c k d f n fit (inr (inl e)) = inr (inl (begun_at ws path_line n b e fit.path.begun))
+most_begun ws a b c k d f n fit (inr (inr (inl e))) = inr (inr (inl (begun_at ws big_line n c e fit.big.begun)))
+most_begun ws a b c k d f n fit (inr (inr (inr (inl e)))) = inr (inr (inr (inl (begun_at ws check_line n k e fit.check.begun))))
+most_begun ws a b c k d f n fit (inr (inr (inr (inr (inl e))))) = inr (inr (inr (inr (inl (begun_at ws help_line n d e fit.help.begun)))))
+most_begun ws a b c k d f n fit (inr (inr (inr (inr (inr e))))) = inr (inr (inr (inr (inr ((begun_at ws version_line n f e fit.version.begun))))))
 
--- the longest of the five fits is the place that is bad
-bad_at : (ws : List (List ℕ)) (a b c d f n : ℕ) → FitAll ws a b c d f → IsMost n a b c d f → AreBadAt ws n
-bad_at ws a b c d f n fit most =
+-- the longest of the six fits is the place that is bad
+bad_at : (ws : List (List ℕ)) (a b c k d f n : ℕ) → FitAll ws a b c k d f → IsMost n a b c k d f → AreBadAt ws n
+bad_at ws a b c k d f n fit most =
     let le_a = most.le_a in
     let le_b = most.le_b in
     let le_c = most.le_c in
+    let le_k = most.le_k in
     let le_d = most.le_d in
     let le_f = most.le_f in
     record {
       no_line =
-          none_of (is_line ws replay_line) (is_line ws path_line) (is_line ws big_line) (is_line ws help_line) (is_line ws version_line) fit.no_replay fit.no_path fit.no_big fit.no_help fit.no_version;
-      within = most_within ws a b c d f n fit most.which;
+          none_of (is_line ws replay_line) (is_line ws path_line) (is_line ws big_line) (is_line ws check_line) (is_line ws help_line) (is_line ws version_line)
+          fit.no_replay fit.no_path fit.no_big fit.no_check fit.no_help fit.no_version;
+      within = most_within ws a b c k d f n fit most.which;
       begun =
-          some_of (begins (take n ws) replay_line) (begins (take n ws) path_line) (begins (take n ws) big_line) (begins (take n ws) help_line) (begins (take n ws) version_line)
-          (most_begun ws a b c d f n fit most.which);
-      ended = λ lt. none_of (begins (take (n + 1) ws) replay_line) (begins (take (n + 1) ws) path_line) (begins (take (n + 1) ws) big_line) (begins (take (n + 1) ws) help_line)
-          (begins (take (n + 1) ws) version_line) (no_begin ws replay_line a (n + 1) fit.replay (omega arith) (omega arith)) (no_begin ws path_line b (n + 1) fit.path (omega arith) (omega arith))
-          (no_begin ws big_line c (n + 1) fit.big (omega arith) (omega arith)) (no_begin ws help_line d (n + 1) fit.help (omega arith) (omega arith))
-          (no_begin ws version_line f (n + 1) fit.version (omega arith) (omega arith));
+          some_of (begins (take n ws) replay_line) (begins (take n ws) path_line) (begins (take n ws) big_line) (begins (take n ws) check_line) (begins (take n ws) help_line) (begins (take n ws) version_line)
+          (most_begun ws a b c k d f n fit most.which);
+      ended = λ lt. none_of (begins (take (n + 1) ws) replay_line) (begins (take (n + 1) ws) path_line) (begins (take (n + 1) ws) big_line) (begins (take (n + 1) ws) check_line) (begins (take (n + 1) ws) help_line) (begins (take (n + 1) ws) version_line)
+          (no_begin ws replay_line a (n + 1) fit.replay (omega arith) (omega arith)) (no_begin ws path_line b (n + 1) fit.path (omega arith) (omega arith)) (no_begin ws big_line c (n + 1) fit.big (omega arith) (omega arith)) (no_begin ws check_line k (n + 1) fit.check (omega arith) (omega arith)) (no_begin ws help_line d (n + 1) fit.help (omega arith) (omega arith)) (no_begin ws version_line f (n + 1) fit.version (omega arith) (omega arith));
     }
 
 short : (b : Bool) → (b && false) ≡ true → ⊥
@@ -224,13 +231,26 @@ big_shape (a ∷ b ∷ n ∷ x ∷ ws) e =
     let long : suc (suc (suc (suc (length ws)))) ≡ 3 = eqb-true (suc (suc (suc (suc (length ws))))) 3 (both (begins (a ∷ b ∷ n ∷ x ∷ ws) big_line) (suc (suc (suc (suc (length ws)))) == 3) e).1 in
     absurd (omega arith)
 
-pub one_of : (a b c d f : Bool) → (a || (b || (c || (d || (f || false))))) ≡ true → OneHolds a b c d f
-one_of true b c d f e = inl refl
-one_of false true c d f e = inr (inl refl)
-one_of false false true d f e = inr (inr (inl refl))
-one_of false false false true f e = inr (inr (inr (inl refl)))
-one_of false false false false true e = inr (inr (inr (inr refl)))
-one_of false false false false false e = absurd (cc)
+-- what stands in the words of a check
+pub check_shape : (ws : List (List ℕ)) → is_line ws check_line ≡ true
+    → (name : List ℕ) × (script : List ℕ) × (log : List ℕ) × (slice_get ws 1 ≡ Some name) × (slice_get ws 2 ≡ Some script) × (slice_get ws 3 ≡ Some log) × IsCheck ws name script log
+check_shape [] e = absurd (cc)
+check_shape (a ∷ []) e = absurd (short (begins (a ∷ []) check_line) e)
+check_shape (a ∷ b ∷ []) e = absurd (short (begins (a ∷ b ∷ []) check_line) e)
+check_shape (a ∷ b ∷ c ∷ []) e = absurd (short (begins (a ∷ b ∷ c ∷ []) check_line) e)
+check_shape (a ∷ b ∷ c ∷ d ∷ []) e = (b, c, d, refl, refl, refl, (e, refl, refl, refl))
+check_shape (a ∷ b ∷ c ∷ d ∷ x ∷ ws) e =
+    let long : suc (suc (suc (suc (suc (length ws))))) ≡ 4 = eqb-true (suc (suc (suc (suc (suc (length ws)))))) 4 (both (begins (a ∷ b ∷ c ∷ d ∷ x ∷ ws) check_line) (suc (suc (suc (suc (suc (length ws))))) == 4) e).1 in
+    absurd (omega arith)
+
+pub one_of : (a b c k d f : Bool) → (a || (b || (c || (k || (d || (f || false)))))) ≡ true → OneHolds a b c k d f
+one_of true b c k d f e = inl refl
+one_of false true c k d f e = inr (inl refl)
+one_of false false true k d f e = inr (inr (inl refl))
+one_of false false false true d f e = inr (inr (inr (inl refl)))
+one_of false false false false true f e = inr (inr (inr (inr (inl refl))))
+one_of false false false false false true e = inr (inr (inr (inr (inr refl))))
+one_of false false false false false false e = absurd (cc)
 
 -- so many words stand there and begin the line
 pub record AreBegun (ws : List (List ℕ)) (forms : List Form) (n : ℕ) : Type 0 where
@@ -301,133 +321,175 @@ pub bad_replay : (ws : List (List ℕ)) (n : ℕ) → has_word ws 0 (bytes_eq (c
 bad_replay ws n first fit not =
     let path = starts_other ws (codes "replay") (codes "path") (is_name ∷ is_step ∷ []) first refl in
     let big = starts_other ws (codes "replay") (codes "big") (is_steps ∷ is_start ∷ []) first refl in
+    let check = starts_other ws (codes "replay") (codes "check") (is_name ∷ is_name ∷ is_name ∷ []) first refl in
     let help = starts_other ws (codes "replay") (codes "--help") [] first refl in
     let version = starts_other ws (codes "replay") (codes "--version") [] first refl in
-    bad_at ws n 0 0 0 0 n
+    bad_at ws n 0 0 0 0 0 n
     (record {
       replay = fit;
       path = path;
       big = big;
+      check = check;
       help = help;
       version = version;
       no_replay = not;
       no_path = no_line_at_0 ws _ _ path;
       no_big = no_line_at_0 ws _ _ big;
+      no_check = no_line_at_0 ws _ _ check;
       no_help = no_line_at_0 ws _ _ help;
       no_version = no_line_at_0 ws _ _ version;
     })
-    (record { le_a = omega arith; le_b = omega arith; le_c = omega arith; le_d = omega arith; le_f = omega arith; which = inl refl })
+    (record { le_a = omega arith; le_b = omega arith; le_c = omega arith; le_k = omega arith; le_d = omega arith; le_f = omega arith; which = inl refl })
 
 pub bad_path : (ws : List (List ℕ)) (n : ℕ) → has_word ws 0 (bytes_eq (codes "path")) ≡ true → AreFit ws path_line n → is_line ws path_line ≡ false → AreBadAt ws n
 bad_path ws n first fit not =
     let replay = starts_other ws (codes "path") (codes "replay") (is_name ∷ is_name ∷ is_name ∷ is_limit ∷ []) first refl in
     let big = starts_other ws (codes "path") (codes "big") (is_steps ∷ is_start ∷ []) first refl in
+    let check = starts_other ws (codes "path") (codes "check") (is_name ∷ is_name ∷ is_name ∷ []) first refl in
     let help = starts_other ws (codes "path") (codes "--help") [] first refl in
     let version = starts_other ws (codes "path") (codes "--version") [] first refl in
-    bad_at ws 0 n 0 0 0 n
+    bad_at ws 0 n 0 0 0 0 n
     (record {
       replay = replay;
       path = fit;
       big = big;
+      check = check;
       help = help;
       version = version;
       no_replay = no_line_at_0 ws _ _ replay;
       no_path = not;
       no_big = no_line_at_0 ws _ _ big;
+      no_check = no_line_at_0 ws _ _ check;
       no_help = no_line_at_0 ws _ _ help;
       no_version = no_line_at_0 ws _ _ version;
     })
-    (record { le_a = omega arith; le_b = omega arith; le_c = omega arith; le_d = omega arith; le_f = omega arith; which = inr (inl refl) })
+    (record { le_a = omega arith; le_b = omega arith; le_c = omega arith; le_k = omega arith; le_d = omega arith; le_f = omega arith; which = inr (inl refl) })
 
 pub bad_big : (ws : List (List ℕ)) (n : ℕ) → has_word ws 0 (bytes_eq (codes "big")) ≡ true → AreFit ws big_line n → is_line ws big_line ≡ false → AreBadAt ws n
 bad_big ws n first fit not =
     let replay = starts_other ws (codes "big") (codes "replay") (is_name ∷ is_name ∷ is_name ∷ is_limit ∷ []) first refl in
     let path = starts_other ws (codes "big") (codes "path") (is_name ∷ is_step ∷ []) first refl in
+    let check = starts_other ws (codes "big") (codes "check") (is_name ∷ is_name ∷ is_name ∷ []) first refl in
     let help = starts_other ws (codes "big") (codes "--help") [] first refl in
     let version = starts_other ws (codes "big") (codes "--version") [] first refl in
-    bad_at ws 0 0 n 0 0 n
+    bad_at ws 0 0 n 0 0 0 n
     (record {
       replay = replay;
       path = path;
       big = fit;
+      check = check;
       help = help;
       version = version;
       no_replay = no_line_at_0 ws _ _ replay;
       no_path = no_line_at_0 ws _ _ path;
       no_big = not;
+      no_check = no_line_at_0 ws _ _ check;
       no_help = no_line_at_0 ws _ _ help;
       no_version = no_line_at_0 ws _ _ version;
     })
-    (record { le_a = omega arith; le_b = omega arith; le_c = omega arith; le_d = omega arith; le_f = omega arith; which = inr (inr (inl refl)) })
+    (record { le_a = omega arith; le_b = omega arith; le_c = omega arith; le_k = omega arith; le_d = omega arith; le_f = omega arith; which = inr (inr (inl refl)) })
+
+pub bad_check : (ws : List (List ℕ)) (n : ℕ) → has_word ws 0 (bytes_eq (codes "check")) ≡ true → AreFit ws check_line n → is_line ws check_line ≡ false → AreBadAt ws n
+bad_check ws n first fit not =
+    let replay = starts_other ws (codes "check") (codes "replay") (is_name ∷ is_name ∷ is_name ∷ is_limit ∷ []) first refl in
+    let path = starts_other ws (codes "check") (codes "path") (is_name ∷ is_step ∷ []) first refl in
+    let big = starts_other ws (codes "check") (codes "big") (is_steps ∷ is_start ∷ []) first refl in
+    let help = starts_other ws (codes "check") (codes "--help") [] first refl in
+    let version = starts_other ws (codes "check") (codes "--version") [] first refl in
+    bad_at ws 0 0 0 n 0 0 n
+    (record {
+      replay = replay;
+      path = path;
+      big = big;
+      check = fit;
+      help = help;
+      version = version;
+      no_replay = no_line_at_0 ws _ _ replay;
+      no_path = no_line_at_0 ws _ _ path;
+      no_big = no_line_at_0 ws _ _ big;
+      no_check = not;
+      no_help = no_line_at_0 ws _ _ help;
+      no_version = no_line_at_0 ws _ _ version;
+    })
+    (record { le_a = omega arith; le_b = omega arith; le_c = omega arith; le_k = omega arith; le_d = omega arith; le_f = omega arith; which = inr (inr (inr (inl refl))) })
 
 pub bad_help : (ws : List (List ℕ)) (n : ℕ) → has_word ws 0 (bytes_eq (codes "--help")) ≡ true → AreFit ws help_line n → is_line ws help_line ≡ false → AreBadAt ws n
 bad_help ws n first fit not =
     let replay = starts_other ws (codes "--help") (codes "replay") (is_name ∷ is_name ∷ is_name ∷ is_limit ∷ []) first refl in
     let path = starts_other ws (codes "--help") (codes "path") (is_name ∷ is_step ∷ []) first refl in
     let big = starts_other ws (codes "--help") (codes "big") (is_steps ∷ is_start ∷ []) first refl in
+    let check = starts_other ws (codes "--help") (codes "check") (is_name ∷ is_name ∷ is_name ∷ []) first refl in
     let version = starts_other ws (codes "--help") (codes "--version") [] first refl in
-    bad_at ws 0 0 0 n 0 n
+    bad_at ws 0 0 0 0 n 0 n
     (record {
       replay = replay;
       path = path;
       big = big;
+      check = check;
       help = fit;
       version = version;
       no_replay = no_line_at_0 ws _ _ replay;
       no_path = no_line_at_0 ws _ _ path;
       no_big = no_line_at_0 ws _ _ big;
+      no_check = no_line_at_0 ws _ _ check;
       no_help = not;
       no_version = no_line_at_0 ws _ _ version;
     })
-    (record { le_a = omega arith; le_b = omega arith; le_c = omega arith; le_d = omega arith; le_f = omega arith; which = inr (inr (inr (inl refl))) })
+    (record { le_a = omega arith; le_b = omega arith; le_c = omega arith; le_k = omega arith; le_d = omega arith; le_f = omega arith; which = inr (inr (inr (inr (inl refl)))) })
 
 pub bad_version : (ws : List (List ℕ)) (n : ℕ) → has_word ws 0 (bytes_eq (codes "--version")) ≡ true → AreFit ws version_line n → is_line ws version_line ≡ false → AreBadAt ws n
 bad_version ws n first fit not =
     let replay = starts_other ws (codes "--version") (codes "replay") (is_name ∷ is_name ∷ is_name ∷ is_limit ∷ []) first refl in
     let path = starts_other ws (codes "--version") (codes "path") (is_name ∷ is_step ∷ []) first refl in
     let big = starts_other ws (codes "--version") (codes "big") (is_steps ∷ is_start ∷ []) first refl in
+    let check = starts_other ws (codes "--version") (codes "check") (is_name ∷ is_name ∷ is_name ∷ []) first refl in
     let help = starts_other ws (codes "--version") (codes "--help") [] first refl in
-    bad_at ws 0 0 0 0 n n
+    bad_at ws 0 0 0 0 0 n n
     (record {
       replay = replay;
       path = path;
       big = big;
+      check = check;
       help = help;
       version = fit;
       no_replay = no_line_at_0 ws _ _ replay;
       no_path = no_line_at_0 ws _ _ path;
       no_big = no_line_at_0 ws _ _ big;
+      no_check = no_line_at_0 ws _ _ check;
       no_help = no_line_at_0 ws _ _ help;
       no_version = not;
     })
-    (record { le_a = omega arith; le_b = omega arith; le_c = omega arith; le_d = omega arith; le_f = omega arith; which = inr (inr (inr (inr refl))) })
+    (record { le_a = omega arith; le_b = omega arith; le_c = omega arith; le_k = omega arith; le_d = omega arith; le_f = omega arith; which = inr (inr (inr (inr (inr refl)))) })
 
 no_first : (ws : List (List ℕ)) (form : Form) (forms : List Form) → has_word ws 0 form ≡ false → AreFit ws (form ∷ forms) 0
 no_first ws form forms not = fit_before ws (form ∷ forms) 0 form refl not (begun_none ws (form ∷ forms))
 
 -- words of which the first is that of no line are bad from the beginning
 pub bad_first : (ws : List (List ℕ)) → has_word ws 0 (bytes_eq (codes "replay")) ≡ false → has_word ws 0 (bytes_eq (codes "path")) ≡ false → has_word ws 0 (bytes_eq (codes "big")) ≡ false
-    → has_word ws 0 (bytes_eq (codes "--help")) ≡ false → has_word ws 0 (bytes_eq (codes "--version")) ≡ false → AreBadAt ws 0
-bad_first ws r p b h v =
+    → has_word ws 0 (bytes_eq (codes "check")) ≡ false → has_word ws 0 (bytes_eq (codes "--help")) ≡ false → has_word ws 0 (bytes_eq (codes "--version")) ≡ false → AreBadAt ws 0
+bad_first ws r p b k h v =
     let replay = no_first ws (bytes_eq (codes "replay")) (is_name ∷ is_name ∷ is_name ∷ is_limit ∷ []) r in
     let path = no_first ws (bytes_eq (codes "path")) (is_name ∷ is_step ∷ []) p in
     let big = no_first ws (bytes_eq (codes "big")) (is_steps ∷ is_start ∷ []) b in
+    let check = no_first ws (bytes_eq (codes "check")) (is_name ∷ is_name ∷ is_name ∷ []) k in
     let help = no_first ws (bytes_eq (codes "--help")) [] h in
     let version = no_first ws (bytes_eq (codes "--version")) [] v in
-    bad_at ws 0 0 0 0 0 0
+    bad_at ws 0 0 0 0 0 0 0
     (record {
       replay = replay;
       path = path;
       big = big;
+      check = check;
       help = help;
       version = version;
       no_replay = no_line_at_0 ws _ _ replay;
       no_path = no_line_at_0 ws _ _ path;
       no_big = no_line_at_0 ws _ _ big;
+      no_check = no_line_at_0 ws _ _ check;
       no_help = no_line_at_0 ws _ _ help;
       no_version = no_line_at_0 ws _ _ version;
     })
-    (record { le_a = omega arith; le_b = omega arith; le_c = omega arith; le_d = omega arith; le_f = omega arith; which = inl refl })
+    (record { le_a = omega arith; le_b = omega arith; le_c = omega arith; le_k = omega arith; le_d = omega arith; le_f = omega arith; which = inl refl })
 
 -- the words begin a line and go on otherwise, before its end or behind it: they aren't the line, and this is how far they fit
 pub stops_before : (ws : List (List ℕ)) (forms : List Form) (n : ℕ) (form : Form) → slice_get forms n ≡ Some form → n < length forms → has_word ws n form ≡ false → AreBegun ws forms n
@@ -474,6 +536,18 @@ big_2 ws steps has begun = begun_more ws big_line 1 is_steps steps refl has begu
 
 pub big_3 : (ws : List (List ℕ)) (start : List ℕ) → HasWord ws 2 is_start start → AreBegun ws big_line 2 → AreBegun ws big_line 3
 big_3 ws start has begun = begun_more ws big_line 2 is_start start refl has begun
+
+pub check_1 : (ws : List (List ℕ)) → has_word ws 0 (bytes_eq (codes "check")) ≡ true → AreBegun ws check_line 1
+check_1 ws first = let h = word_of ws 0 (bytes_eq (codes "check")) first in begun_more ws check_line 0 (bytes_eq (codes "check")) h.0 refl h.1 (begun_none ws check_line)
+
+pub check_2 : (ws : List (List ℕ)) (name : List ℕ) → HasWord ws 1 is_name name → AreBegun ws check_line 1 → AreBegun ws check_line 2
+check_2 ws name has begun = begun_more ws check_line 1 is_name name refl has begun
+
+pub check_3 : (ws : List (List ℕ)) (script : List ℕ) → HasWord ws 2 is_name script → AreBegun ws check_line 2 → AreBegun ws check_line 3
+check_3 ws script has begun = begun_more ws check_line 2 is_name script refl has begun
+
+pub check_4 : (ws : List (List ℕ)) (log : List ℕ) → HasWord ws 3 is_name log → AreBegun ws check_line 3 → AreBegun ws check_line 4
+check_4 ws log has begun = begun_more ws check_line 3 is_name log refl has begun
 
 pub help_1 : (ws : List (List ℕ)) → has_word ws 0 (bytes_eq (codes "--help")) ≡ true → AreBegun ws help_line 1
 help_1 ws first = let h = word_of ws 0 (bytes_eq (codes "--help")) first in begun_more ws help_line 0 (bytes_eq (codes "--help")) h.0 refl h.1 (begun_none ws help_line)
@@ -546,6 +620,16 @@ case_within (a ∷ b ∷ l ∷ []) steps start is =
     (range.0, range.1, subst (λ (n : ℕ). n ≤ MAX_START) is.2 (leb-true (value_of l) MAX_START far.1))
 case_within (a ∷ b ∷ l ∷ x ∷ ws) steps start is = absurd is
 
+pub is_check : (ws : List (List ℕ)) (name script log : List ℕ) → AreBegun ws check_line 4 → length ws ≤ 4 → HasWord ws 1 is_name name → HasWord ws 2 is_name script → HasWord ws 3 is_name log
+    → IsCheck ws name script log
+is_check ws name script log begun short at_1 at_2 at_3 =
+    let shape = check_shape ws (begun_line ws check_line 4 begun short refl) in
+    let e_name : shape.0 ≡ name = same_word shape.0 name (sym shape.3 ∙ at_1.0) in
+    let e_script : shape.1 ≡ script = same_word shape.1 script (sym shape.4 ∙ at_2.0) in
+    let e_log : shape.2 ≡ log = same_word shape.2 log (sym shape.5 ∙ at_3.0) in
+    subst (λ (n : List ℕ). IsCheck ws n script log) e_name
+    (subst (λ (w : List ℕ). IsCheck ws shape.0 w log) e_script (subst (λ (w : List ℕ). IsCheck ws shape.0 shape.1 w) e_log shape.6))
+
 -- words of a replay that go on otherwise at some place
 pub replay_stops_1 : (ws : List (List ℕ)) (bad : ℕ) → has_word ws 0 (bytes_eq (codes "replay")) ≡ true → (bad ≡ 1) × (has_word ws 1 is_name ≡ false) → AreBadAt ws bad
 replay_stops_1 ws bad first stop =
@@ -617,6 +701,33 @@ pub big_stops_3 : (ws : List (List ℕ)) (steps start : List ℕ) (bad : ℕ) �
 big_stops_3 ws steps start bad first at_1 at_2 stop =
     let s = stops_behind ws big_line 3 refl stop.1 (big_3 ws start at_2 (big_2 ws steps at_1 (big_1 ws first))) in
     subst (λ (n : ℕ). AreBadAt ws n) (sym stop.0) (bad_big ws 3 first s.0 s.1)
+
+-- words of a check that go on otherwise at some place
+pub check_stops_1 : (ws : List (List ℕ)) (bad : ℕ) → has_word ws 0 (bytes_eq (codes "check")) ≡ true → (bad ≡ 1) × (has_word ws 1 is_name ≡ false) → AreBadAt ws bad
+check_stops_1 ws bad first stop =
+    let four : length check_line ≡ 4 = refl in
+    let s = stops_before ws check_line 1 is_name refl (omega arith) stop.1 (check_1 ws first) in
+    subst (λ (n : ℕ). AreBadAt ws n) (sym stop.0) (bad_check ws 1 first s.0 s.1)
+
+pub check_stops_2 : (ws : List (List ℕ)) (name : List ℕ) (bad : ℕ) → has_word ws 0 (bytes_eq (codes "check")) ≡ true → HasWord ws 1 is_name name → (bad ≡ 2) × (has_word ws 2 is_name ≡ false)
+    → AreBadAt ws bad
+check_stops_2 ws name bad first at_1 stop =
+    let four : length check_line ≡ 4 = refl in
+    let s = stops_before ws check_line 2 is_name refl (omega arith) stop.1 (check_2 ws name at_1 (check_1 ws first)) in
+    subst (λ (n : ℕ). AreBadAt ws n) (sym stop.0) (bad_check ws 2 first s.0 s.1)
+
+pub check_stops_3 : (ws : List (List ℕ)) (name script : List ℕ) (bad : ℕ) → has_word ws 0 (bytes_eq (codes "check")) ≡ true → HasWord ws 1 is_name name → HasWord ws 2 is_name script
+    → (bad ≡ 3) × (has_word ws 3 is_name ≡ false) → AreBadAt ws bad
+check_stops_3 ws name script bad first at_1 at_2 stop =
+    let four : length check_line ≡ 4 = refl in
+    let s = stops_before ws check_line 3 is_name refl (omega arith) stop.1 (check_3 ws script at_2 (check_2 ws name at_1 (check_1 ws first))) in
+    subst (λ (n : ℕ). AreBadAt ws n) (sym stop.0) (bad_check ws 3 first s.0 s.1)
+
+pub check_stops_4 : (ws : List (List ℕ)) (name script log : List ℕ) (bad : ℕ) → has_word ws 0 (bytes_eq (codes "check")) ≡ true → HasWord ws 1 is_name name → HasWord ws 2 is_name script
+    → HasWord ws 3 is_name log → (bad ≡ 4) × (4 < length ws) → AreBadAt ws bad
+check_stops_4 ws name script log bad first at_1 at_2 at_3 stop =
+    let s = stops_behind ws check_line 4 refl stop.1 (check_4 ws log at_3 (check_3 ws script at_2 (check_2 ws name at_1 (check_1 ws first)))) in
+    subst (λ (n : ℕ). AreBadAt ws n) (sym stop.0) (bad_check ws 4 first s.0 s.1)
 
 -- more words behind `--help` and `--version`
 pub help_stops : (ws : List (List ℕ)) (bad : ℕ) → has_word ws 0 (bytes_eq (codes "--help")) ≡ true → (bad ≡ 1) × (1 < length ws) → AreBadAt ws bad

@@ -18,12 +18,12 @@ use Rattle.controller.specs.declared.answer.Stop.{Stop}
 use Rattle.controller.specs.declared.answer.Stop.TheVariants as stops
 use Rattle.controller.specs.declared.status.Status.{Status}
 use Rattle.controller.specs.declared.status.Status.TheVariants as statuses
-use Rattle.controller.specs.Words.{IsReplay, IsPath, IsBig, NamesProject}
+use Rattle.controller.specs.Words.{IsReplay, IsPath, IsBig, IsCheck, NamesProject}
 use Rattle.controller.specs.Outside.{Outside}
 use Rattle.controller.specs.Asked.{IsLog, IsRefused, IsRight, replayed}
 use Rattle.controller.specs.Answer.{answer_text, answer_status}
 use Rattle.controller.specs.Answered.{Answered}
-use Rattle.controller.specs.Calls.{IsRefusedFile, Replays, OrReplayStops, Shows, OrStops, CountsCase, OrNoMemory, IsAnswer, AnswersOrStops, IsPut}
+use Rattle.controller.specs.Calls.{IsRefusedFile, Replays, OrReplayStops, Shows, OrStops, CountsCase, OrNoMemory, Checks, OrCheckStops, IsAnswer, AnswersOrStops, IsPut}
 
 -- what is refused of a named file is refused for the words
 refused : (ws : List (List ℕ)) (holds : List ℕ → Option (List ℕ)) (name : List ℕ) (reason : ProjectReason) → NamesProject ws name → IsRefusedFile (holds name) reason → IsRefused ws holds reason
@@ -82,6 +82,9 @@ replay_right ws holds name script schedule limit (answers.Ran t endings.Blocked)
 replay_right ws holds name script schedule limit (answers.Ran t endings.Limit) asked is = (t, is_log ws holds name script schedule limit t endings.Limit asked is, refl)
 replay_right ws holds name script schedule limit (answers.Shown d) asked is = absurd is
 replay_right ws holds name script schedule limit (answers.Counted n from ending counts) asked is = absurd is
+replay_right ws holds name script schedule limit (answers.Legal ending) asked is = absurd is
+replay_right ws holds name script schedule limit (answers.Illegal place) asked is = absurd is
+replay_right ws holds name script schedule limit (answers.LogRefused reason) asked is = absurd is
 
 not_shown : (ws : List (List ℕ)) (holds : List ℕ → Option (List ℕ)) (name : List ℕ) (n : ℕ) (reason : ProjectReason) → IsPath ws name n → Shows (holds name) n (answers.Refused reason) → IsRefused ws holds reason
 not_shown ws holds name n (reasons.NoStep m) asked is = record {
@@ -89,12 +92,12 @@ not_shown ws holds name n (reasons.NoStep m) asked is = record {
   asked = subst (λ (k : ℕ). IsPath ws name k) (sym is.0) asked;
   absent = subst (λ (k : ℕ). IfSome (holds name) (λ bytes. (p : Project) × Holds bytes p × (is_among p.steps k ≡ false))) (sym is.0) is.1;
 }
-not_shown ws holds name n reasons.TooLong asked is = refused ws holds name reasons.TooLong (inr (n, asked)) is
-not_shown ws holds name n (reasons.Read fault) asked is = refused ws holds name (reasons.Read fault) (inr (n, asked)) is
-not_shown ws holds name n (reasons.Attribute fault) asked is = refused ws holds name (reasons.Attribute fault) (inr (n, asked)) is
-not_shown ws holds name n (reasons.Store fault) asked is = refused ws holds name (reasons.Store fault) (inr (n, asked)) is
-not_shown ws holds name n (reasons.Tree fault) asked is = refused ws holds name (reasons.Tree fault) (inr (n, asked)) is
-not_shown ws holds name n (reasons.Definition m fault) asked is = refused ws holds name (reasons.Definition m fault) (inr (n, asked)) is
+not_shown ws holds name n reasons.TooLong asked is = refused ws holds name reasons.TooLong (inr (inl (n, asked))) is
+not_shown ws holds name n (reasons.Read fault) asked is = refused ws holds name (reasons.Read fault) (inr (inl (n, asked))) is
+not_shown ws holds name n (reasons.Attribute fault) asked is = refused ws holds name (reasons.Attribute fault) (inr (inl (n, asked))) is
+not_shown ws holds name n (reasons.Store fault) asked is = refused ws holds name (reasons.Store fault) (inr (inl (n, asked))) is
+not_shown ws holds name n (reasons.Tree fault) asked is = refused ws holds name (reasons.Tree fault) (inr (inl (n, asked))) is
+not_shown ws holds name n (reasons.Definition m fault) asked is = refused ws holds name (reasons.Definition m fault) (inr (inl (n, asked))) is
 
 -- what comes of the path of a workingstep in the file that the words name is right for them
 pub shown : (ws : List (List ℕ)) (holds : List ℕ → Option (List ℕ)) (name : List ℕ) (n : ℕ) (a : Answer) → IsPath ws name n → Shows (holds name) n a → IsAnswer ws holds a
@@ -106,6 +109,9 @@ shown ws holds name n (answers.Refused reason) asked is = (not_shown ws holds na
 shown ws holds name n (answers.Ran t ending) asked is = absurd is
 shown ws holds name n (answers.Shown d) asked is = inl (d, record { name = name; number = n; asked = asked; project = is.0; held = is.1; step = is.2 }, refl)
 shown ws holds name n (answers.Counted m from ending counts) asked is = absurd is
+shown ws holds name n (answers.Legal ending) asked is = absurd is
+shown ws holds name n (answers.Illegal place) asked is = absurd is
+shown ws holds name n (answers.LogRefused reason) asked is = absurd is
 
 -- what is refused of the project of a large case is refused for the words that ask for it
 no_case : (ws : List (List ℕ)) (holds : List ℕ → Option (List ℕ)) (steps start : ℕ) (reason : ProjectReason) → IsBig ws steps start → Refuses (case_project steps start) reason → IsRefused ws holds reason
@@ -127,9 +133,12 @@ counted ws holds steps start (answers.BadWords place) asked is = absurd is
 counted ws holds steps start answers.Help asked is = absurd is
 counted ws holds steps start answers.Version asked is = absurd is
 counted ws holds steps start (answers.Refused reason) asked is = (no_case ws holds steps start reason asked is, refl)
-counted ws holds steps start (answers.ScriptRefused reason) asked is = (inr (inr (record { steps = steps; start = start; asked = asked; project = is.0; held = is.1; refused = is.2 })), refl)
+counted ws holds steps start (answers.ScriptRefused reason) asked is = (inr (inr (inl (record { steps = steps; start = start; asked = asked; project = is.0; held = is.1; refused = is.2 }))), refl)
 counted ws holds steps start (answers.Ran t ending) asked is = absurd is
 counted ws holds steps start (answers.Shown d) asked is = absurd is
+counted ws holds steps start (answers.Legal ending) asked is = absurd is
+counted ws holds steps start (answers.Illegal place) asked is = absurd is
+counted ws holds steps start (answers.LogRefused reason) asked is = absurd is
 counted ws holds steps start (answers.Counted n from ending counts) asked is =
     inr (inl (record {
       steps = steps;
@@ -164,6 +173,8 @@ answered ws before after a statuses.Blocked is put = (answer_text a, subst (λ (
 answered ws before after a statuses.RunLimit is put = (answer_text a, subst (λ (s : Status). IsRight ws before.holds s (answer_text a)) put.0 is, put.1)
 answered ws before after a statuses.Written is put = (answer_text a, subst (λ (s : Status). IsRight ws before.holds s (answer_text a)) put.0 is, put.1)
 answered ws before after a (statuses.BadWords place) is put = (answer_text a, subst (λ (s : Status). IsRight ws before.holds s (answer_text a)) put.0 is, put.1)
+answered ws before after a (statuses.Illegal place) is put = (answer_text a, subst (λ (s : Status). IsRight ws before.holds s (answer_text a)) put.0 is, put.1)
+answered ws before after a (statuses.LogRefused reason) is put = (answer_text a, subst (λ (s : Status). IsRight ws before.holds s (answer_text a)) put.0 is, put.1)
 answered ws before after a (statuses.ScriptRefused reason) is put = (answer_text a, subst (λ (s : Status). IsRight ws before.holds s (answer_text a)) put.0 is, put.1)
 answered ws before after a (statuses.ProjectRefused reason) is put = (answer_text a, subst (λ (s : Status). IsRight ws before.holds s (answer_text a)) put.0 is, put.1)
 
@@ -172,12 +183,66 @@ pub replay_answers : (ws : List (List ℕ)) (holds : List ℕ → Option (List �
     → OrReplayStops name script schedule before now (Replays holds name script schedule limit) r → AnswersOrStops ws holds before now r
 replay_answers ws holds before now name script schedule limit (Ok a) asked is = replay_right ws holds name script schedule limit a asked is
 replay_answers ws holds before now name script schedule limit (Err stops.ReadFault) asked (inl is) = (name, inl (inl (script, schedule, limit, asked)), is)
-replay_answers ws holds before now name script schedule limit (Err stops.ReadFault) asked (inr (inl is)) = (script, inr (inl (name, schedule, limit, asked, is.0)), is.1)
-replay_answers ws holds before now name script schedule limit (Err stops.ReadFault) asked (inr (inr is)) = (schedule, inr (inr (name, script, limit, asked, is.0)), is.1)
+replay_answers ws holds before now name script schedule limit (Err stops.ReadFault) asked (inr (inl is)) = (script, inr (inl (inl (name, schedule, limit, asked, is.0))), is.1)
+replay_answers ws holds before now name script schedule limit (Err stops.ReadFault) asked (inr (inr is)) = (schedule, inr (inr (inl (name, script, limit, asked, is.0))), is.1)
 replay_answers ws holds before now name script schedule limit (Err stops.NoMemory) asked is = tt
 
 pub path_answers : (ws : List (List ℕ)) (holds : List ℕ → Option (List ℕ)) (before now : List ℕ → ℕ) (name : List ℕ) (n : ℕ) (r : Result Answer Stop) → IsPath ws name n
     → OrStops (before name) (now name) (Shows (holds name) n) r → AnswersOrStops ws holds before now r
 path_answers ws holds before now name n (Ok a) asked is = shown ws holds name n a asked is
-path_answers ws holds before now name n (Err stops.ReadFault) asked is = (name, inl (inr (n, asked)), is)
+path_answers ws holds before now name n (Err stops.ReadFault) asked is = (name, inl (inr (inl (n, asked))), is)
 path_answers ws holds before now name n (Err stops.NoMemory) asked is = tt
+
+-- what comes of a check of the files that the words name is right for them
+check_right : (ws : List (List ℕ)) (holds : List ℕ → Option (List ℕ)) (name script log : List ℕ) (a : Answer) → IsCheck ws name script log → Checks holds name script log a → IsAnswer ws holds a
+check_right ws holds name script log (answers.BadWords place) asked is = absurd is
+check_right ws holds name script log answers.Help asked is = absurd is
+check_right ws holds name script log answers.Version asked is = absurd is
+check_right ws holds name script log (answers.Refused reason) asked is = (refused ws holds name reason (inr (inr (script, log, asked))) is, refl)
+check_right ws holds name script log (answers.ScriptRefused reason) asked is =
+    (inr (inr (inr (record { name = name; script = script; log = log; asked = asked; project = is.0; held = is.1; unscripted = is.2 }))), refl)
+check_right ws holds name script log (answers.Ran t ending) asked is = absurd is
+check_right ws holds name script log (answers.Shown d) asked is = absurd is
+check_right ws holds name script log (answers.Counted n from ending counts) asked is = absurd is
+check_right ws holds name script log (answers.Legal ending) asked is =
+    inr (inr (inl (ending, record {
+      name = name;
+      script = script;
+      log = log;
+      asked = asked;
+      project = is.0;
+      held = is.1;
+      edits = is.2;
+      scripted = is.3;
+      t = is.4.0;
+      logged = is.4.1;
+      legal = is.4.2;
+    }, refl)))
+check_right ws holds name script log (answers.Illegal place) asked is = (
+  record {
+    name = name;
+    script = script;
+    log = log;
+    asked = asked;
+    project = is.0;
+    held = is.1;
+    edits = is.2;
+    scripted = is.3;
+    t = is.4.0;
+    ending = is.4.1;
+    logged = is.4.2;
+    wrong = is.4.3;
+  },
+  refl,
+)
+check_right ws holds name script log (answers.LogRefused reason) asked is =
+    (record { name = name; script = script; log = log; asked = asked; project = is.0; held = is.1; edits = is.2; scripted = is.3; unlogged = is.4 }, refl)
+
+-- what comes of a check of the named files, or why nothing does, answers the words
+pub check_answers : (ws : List (List ℕ)) (holds : List ℕ → Option (List ℕ)) (before now : List ℕ → ℕ) (name script log : List ℕ) (r : Result Answer Stop) → IsCheck ws name script log
+    → OrCheckStops name script log before now (Checks holds name script log) r → AnswersOrStops ws holds before now r
+check_answers ws holds before now name script log (Ok a) asked is = check_right ws holds name script log a asked is
+check_answers ws holds before now name script log (Err stops.ReadFault) asked (inl is) = (name, inl (inr (inr (script, log, asked))), is)
+check_answers ws holds before now name script log (Err stops.ReadFault) asked (inr (inl is)) = (script, inr (inl (inr (name, log, asked, is.0))), is.1)
+check_answers ws holds before now name script log (Err stops.ReadFault) asked (inr (inr is)) = (log, inr (inr (inr (name, script, asked))), is)
+check_answers ws holds before now name script log (Err stops.NoMemory) asked is = tt

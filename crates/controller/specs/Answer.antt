@@ -6,11 +6,11 @@ use Rattle.run_log.specs.declared.entry.Ending.TheVariants as endings
 use Rattle.run_log.specs.LogText.{text_of}
 use Rattle.run_log.specs.BlocksText.{blocks_text}
 use Rattle.controller.specs.declared.answer.Answer.{Answer}
-use Rattle.controller.specs.declared.answer.Answer.TheVariants.{BadWords, Help, Version, Refused, ScriptRefused, Ran, Shown, Counted}
+use Rattle.controller.specs.declared.answer.Answer.TheVariants.{BadWords, Help, Version, Refused, ScriptRefused, Ran, Shown, Counted, Legal, Illegal, LogRefused}
 use Rattle.controller.specs.declared.status.Status.{Status}
 use Rattle.controller.specs.declared.status.Status.TheVariants as statuses
-use Rattle.controller.specs.Texts.{bad_words_line, help_text, version_text}
-use Rattle.controller.specs.Refusal.{refusal_line, script_line}
+use Rattle.controller.specs.Texts.{bad_words_line, legal_line, illegal_line, help_text, version_text}
+use Rattle.controller.specs.Refusal.{refusal_line, script_line, log_line}
 use Rattle.controller.specs.Counts.{counts_line}
 
 -- the bytes that say an answer
@@ -23,6 +23,9 @@ answer_text (ScriptRefused reason) = script_line reason
 answer_text (Ran t ending) = text_of t ending
 answer_text (Shown d) = blocks_text (path_of d)
 answer_text (Counted steps start ending counts) = counts_line steps start ending counts
+answer_text (Legal ending) = legal_line ending
+answer_text (Illegal place) = illegal_line place
+answer_text (LogRefused reason) = log_line reason
 
 abbrev pub ending_status : Ending → Status
 ending_status endings.Done = statuses.Done
@@ -39,3 +42,6 @@ answer_status (ScriptRefused reason) = statuses.ScriptRefused reason
 answer_status (Ran t ending) = ending_status ending
 answer_status (Shown d) = statuses.Written
 answer_status (Counted steps start ending counts) = statuses.Written
+answer_status (Legal ending) = statuses.Written
+answer_status (Illegal place) = statuses.Illegal place
+answer_status (LogRefused reason) = statuses.LogRefused reason

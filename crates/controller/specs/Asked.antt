@@ -18,14 +18,17 @@ use Rattle.run_log.specs.declared.entry.Ending.TheVariants as endings
 use Rattle.run_log.specs.LogText.{text_of}
 use Rattle.run_log.specs.BlocksText.{blocks_text}
 use Rattle.controller.specs.declared.status.Status.{Status}
-use Rattle.controller.specs.declared.status.Status.TheVariants.{Done, Blocked, RunLimit, Written, BadWords, ProjectRefused, ScriptRefused, ReadFault, WriteFault, NoMemory}
-use Rattle.controller.specs.Words.{help_line, version_line, is_line, IsReplay, IsPath, IsBig, NamesProject, AreBadAt}
-use Rattle.controller.specs.Texts.{bad_words_line, help_text, version_text}
-use Rattle.controller.specs.Refusal.{refusal_line, script_line}
+use Rattle.controller.specs.declared.status.Status.TheVariants.{Done, Blocked, RunLimit, Written, BadWords, ProjectRefused, ScriptRefused, Illegal, LogRefused, ReadFault, WriteFault, NoMemory}
+use Rattle.controller.specs.Words.{help_line, version_line, is_line, IsReplay, IsPath, IsBig, IsCheck, NamesProject, AreBadAt}
+use Rattle.controller.specs.Texts.{bad_words_line, legal_line, illegal_line, help_text, version_text}
+use Rattle.controller.specs.Refusal.{refusal_line, script_line, log_line}
 use Rattle.controller.specs.declared.status.ScriptReason.{ScriptReason}
+use Rattle.controller.specs.declared.status.LogReason.{LogReason}
 use Rattle.entity_types.specs.declared.edit.Edit.{Edit}
 use Rattle.controller.specs.ScriptText.{IsScript, RefusesScript, IsScripted, IsUnscripted}
 use Rattle.controller.specs.ScheduleText.{IsScheduled, IsUnscheduled}
+use Rattle.controller.specs.LogFile.{HoldsLog, HoldsNoLog}
+use Rattle.log_check.specs.Checked.{IsFirstMisfit, IsEndedWrong, IsLegalSo}
 use Rattle.controller.specs.Counts.{counts_of, counts_line}
 use Rattle.controller.specs.Case.{case_project, case_script, case_limit}
 
@@ -136,6 +139,59 @@ pub record HasNoCaseScript (words : List (List ℕ)) (reason : ScriptReason) : T
   pub held : Holds (case_project steps start) project
   pub refused : RefusesScript (case_script steps start) reason
 
+-- The words ask for a check, the files that they name hold a project, a script and a log, and the log is a legal run of the project and the script
+-- with the ending that it names.
+pub record IsLegalLog (words : List (List ℕ)) (holds : List ℕ → Option (List ℕ)) (ending : Ending) : Type 0 where
+  pub name : List ℕ
+  pub script : List ℕ
+  pub log : List ℕ
+  pub asked : IsCheck words name script log
+  pub project : Project
+  pub held : HoldsProject holds name project
+  pub edits : List Edit
+  pub scripted : IsScripted holds script edits
+  pub t : List Entry
+  pub logged : HoldsLog (holds log) t ending
+  pub legal : IsLegalSo (rules_of project.entities edits) t ending
+
+-- The words ask for a check, the files that they name hold a project, a script and a log, and at this place stands the first entry of the log that
+-- doesn't fit those before it, or each of them fits, they are so many, and only the ending isn't the log's own.
+pub record IsIllegalLog (words : List (List ℕ)) (holds : List ℕ → Option (List ℕ)) (place : ℕ) : Type 0 where
+  pub name : List ℕ
+  pub script : List ℕ
+  pub log : List ℕ
+  pub asked : IsCheck words name script log
+  pub project : Project
+  pub held : HoldsProject holds name project
+  pub edits : List Edit
+  pub scripted : IsScripted holds script edits
+  pub t : List Entry
+  pub ending : Ending
+  pub logged : HoldsLog (holds log) t ending
+  pub wrong : IsFirstMisfit (rules_of project.entities edits) t place ⊎ IsEndedWrong (rules_of project.entities edits) t ending place
+
+-- the words ask for a check, the files that they name hold a project and a script, and the file that they name for the log holds none, for this reason
+pub record HasNoLog (words : List (List ℕ)) (holds : List ℕ → Option (List ℕ)) (reason : LogReason) : Type 0 where
+  pub name : List ℕ
+  pub script : List ℕ
+  pub log : List ℕ
+  pub asked : IsCheck words name script log
+  pub project : Project
+  pub held : HoldsProject holds name project
+  pub edits : List Edit
+  pub scripted : IsScripted holds script edits
+  pub unlogged : HoldsNoLog (holds log) reason
+
+-- the words ask for a check, the file that they name holds a project, and the script that they name is none, for this reason
+pub record HasNoCheckScript (words : List (List ℕ)) (holds : List ℕ → Option (List ℕ)) (reason : ScriptReason) : Type 0 where
+  pub name : List ℕ
+  pub script : List ℕ
+  pub log : List ℕ
+  pub asked : IsCheck words name script log
+  pub project : Project
+  pub held : HoldsProject holds name project
+  pub unscripted : IsUnscripted holds script reason
+
 -- why the project that the words name or ask for is refused
 abbrev pub IsRefused : List (List ℕ) → (List ℕ → Option (List ℕ)) → ProjectReason → Type 0
 IsRefused words holds (NoStep n) = HasNoStep words holds n
@@ -143,13 +199,15 @@ IsRefused words holds reason = HasNoProject words holds reason ⊎ HasNoCase wor
 
 -- why the script or the schedule that the words name or ask for is refused
 abbrev pub IsRefusedScript : List (List ℕ) → (List ℕ → Option (List ℕ)) → ScriptReason → Type 0
-IsRefusedScript words holds reason = HasNoScript words holds reason ⊎ (HasNoSchedule words holds reason ⊎ HasNoCaseScript words reason)
+IsRefusedScript words holds reason = HasNoScript words holds reason ⊎ (HasNoSchedule words holds reason ⊎ (HasNoCaseScript words reason ⊎ HasNoCheckScript words holds reason))
 
--- what is written for the words: the path of a workingstep block by block, the counts of a large case, the commands, or the version
+-- what is written for the words: the path of a workingstep block by block, the counts of a large case, that a log is legal, the commands, or the version
 abbrev pub IsWritten : List (List ℕ) → (List ℕ → Option (List ℕ)) → List ℕ → Type 0
 IsWritten words holds text =
     ((d : Def) × IsDefinition words holds d × (text ≡ blocks_text (path_of d)))
-    ⊎ (IsCounted words text ⊎ (((is_line words help_line ≡ true) × (text ≡ help_text)) ⊎ ((is_line words version_line ≡ true) × (text ≡ version_text))))
+    ⊎ (IsCounted words text
+    ⊎ (((ending : Ending) × IsLegalLog words holds ending × (text ≡ legal_line ending))
+    ⊎ (((is_line words help_line ≡ true) × (text ≡ help_text)) ⊎ ((is_line words version_line ≡ true) × (text ≡ version_text)))))
 
 -- The words, with what the files hold, have this status and this text. That a file or the sink fails, and that memory runs out, lies in neither.
 abbrev pub IsRight : List (List ℕ) → (List ℕ → Option (List ℕ)) → Status → List ℕ → Type 0
@@ -160,6 +218,8 @@ IsRight words holds Written text = IsWritten words holds text
 IsRight words holds (BadWords place) text = AreBadAt words place × (text ≡ bad_words_line place)
 IsRight words holds (ProjectRefused reason) text = IsRefused words holds reason × (text ≡ refusal_line reason)
 IsRight words holds (ScriptRefused reason) text = IsRefusedScript words holds reason × (text ≡ script_line reason)
+IsRight words holds (Illegal place) text = IsIllegalLog words holds place × (text ≡ illegal_line place)
+IsRight words holds (LogRefused reason) text = HasNoLog words holds reason × (text ≡ log_line reason)
 IsRight words holds ReadFault text = ⊥
 IsRight words holds WriteFault text = ⊥
 IsRight words holds NoMemory text = ⊥

@@ -11,7 +11,7 @@ use Rattle.project_read.specs.Refuses.{Refuses}
 use Rattle.project_read.specs.Reads.{Reads}
 use Rattle.project_law.specs.Run.{IsRun}
 use Rattle.controller.specs.declared.answer.Answer.{Answer}
-use Rattle.controller.specs.declared.answer.Answer.TheVariants.{Refused, ScriptRefused, Ran, Shown, Counted}
+use Rattle.controller.specs.declared.answer.Answer.TheVariants.{Refused, ScriptRefused, Ran, Shown, Counted, Legal, Illegal, LogRefused}
 use Rattle.controller.specs.declared.answer.Stop.{Stop}
 use Rattle.controller.specs.declared.answer.Stop.TheVariants as stops
 use Rattle.controller.specs.declared.unheld.Unheld.{Unheld}
@@ -22,6 +22,11 @@ use Rattle.controller.specs.Words.{Names, is_hyphen}
 use Rattle.entity_types.specs.declared.edit.Edit.{Edit}
 use Rattle.controller.specs.ScriptText.{IsScript, RefusesScript, IsScripted, IsUnscripted}
 use Rattle.controller.specs.ScheduleText.{IsScheduled, IsUnscheduled}
+use Rattle.run_log.specs.declared.entry.Entry.{Entry}
+use Rattle.run_log.specs.declared.entry.Ending.{Ending}
+use Rattle.project_law.specs.ProjectRules.{rules_of}
+use Rattle.log_check.specs.Checked.{IsFirstMisfit, IsEndedWrong, IsLegalSo}
+use Rattle.controller.specs.LogFile.{IsLogText, RefusesLog, HoldsLog, HoldsNoLog}
 use Rattle.controller.specs.Counts.{counts_of}
 use Rattle.controller.specs.Case.{case_project, case_script, case_limit}
 use Rattle.controller.specs.Asked.{HoldsProject, IsStep, IsRight, replayed}
@@ -50,6 +55,7 @@ abbrev pub ReadsProject : List ℕ → Result (List Entity) Unheld → Type 0
 ReadsProject bytes (Ok p) = Reads bytes (Ok p)
 ReadsProject bytes (Err (unheld.Refused reason)) = Refuses bytes reason
 ReadsProject bytes (Err (unheld.ScriptRefused reason)) = ⊥
+ReadsProject bytes (Err (unheld.LogRefused reason)) = ⊥
 ReadsProject bytes (Err (unheld.Stopped stops.ReadFault)) = ⊥
 ReadsProject bytes (Err (unheld.Stopped stops.NoMemory)) = Unit {0}
 
@@ -58,6 +64,7 @@ abbrev pub ReadsEdits : List ℕ → Result (List Edit) Unheld → Type 0
 ReadsEdits bytes (Ok edits) = IsScript bytes edits
 ReadsEdits bytes (Err (unheld.Refused reason)) = ⊥
 ReadsEdits bytes (Err (unheld.ScriptRefused reason)) = RefusesScript bytes reason
+ReadsEdits bytes (Err (unheld.LogRefused reason)) = ⊥
 ReadsEdits bytes (Err (unheld.Stopped stops.ReadFault)) = ⊥
 ReadsEdits bytes (Err (unheld.Stopped stops.NoMemory)) = Unit {0}
 
@@ -66,6 +73,7 @@ abbrev pub ReadsFile : Option (List ℕ) → ℕ → ℕ → Result (List Entity
 ReadsFile held before now (Ok p) = (bytes : List ℕ) × AreBytesOf held bytes × Reads bytes (Ok p)
 ReadsFile held before now (Err (unheld.Refused reason)) = IsRefusedFile held reason
 ReadsFile held before now (Err (unheld.ScriptRefused reason)) = ⊥
+ReadsFile held before now (Err (unheld.LogRefused reason)) = ⊥
 ReadsFile held before now (Err (unheld.Stopped stop)) = IsStopOf before now stop
 
 -- why the script or the schedule of this word gave nothing: it names a file, and the count of its faults rose, or memory ran out
@@ -78,6 +86,7 @@ abbrev pub ReadsScript : (List ℕ → Option (List ℕ)) → List ℕ → ℕ �
 ReadsScript holds word before now (Ok edits) = IsScripted holds word edits
 ReadsScript holds word before now (Err (unheld.Refused reason)) = ⊥
 ReadsScript holds word before now (Err (unheld.ScriptRefused reason)) = IsUnscripted holds word reason
+ReadsScript holds word before now (Err (unheld.LogRefused reason)) = ⊥
 ReadsScript holds word before now (Err (unheld.Stopped stop)) = IsWordStop word before now stop
 
 -- the channels of the schedule that a word names, or why it gave none
@@ -85,12 +94,31 @@ abbrev pub ReadsSchedule : (List ℕ → Option (List ℕ)) → List ℕ → ℕ
 ReadsSchedule holds word before now (Ok channels) = IsScheduled holds word channels.items
 ReadsSchedule holds word before now (Err (unheld.Refused reason)) = ⊥
 ReadsSchedule holds word before now (Err (unheld.ScriptRefused reason)) = IsUnscheduled holds word reason
+ReadsSchedule holds word before now (Err (unheld.LogRefused reason)) = ⊥
 ReadsSchedule holds word before now (Err (unheld.Stopped stop)) = IsWordStop word before now stop
+
+-- the log that bytes are the text of, or why they are that of none, unless memory ran out
+abbrev pub ReadsLines : List ℕ → Result (List Entry × Ending) Unheld → Type 0
+ReadsLines bytes (Ok read) = IsLogText bytes read.0 read.1
+ReadsLines bytes (Err (unheld.Refused reason)) = ⊥
+ReadsLines bytes (Err (unheld.ScriptRefused reason)) = ⊥
+ReadsLines bytes (Err (unheld.LogRefused reason)) = RefusesLog bytes reason
+ReadsLines bytes (Err (unheld.Stopped stops.ReadFault)) = ⊥
+ReadsLines bytes (Err (unheld.Stopped stops.NoMemory)) = Unit {0}
+
+-- the log that a file holds, or why it gave none
+abbrev pub ReadsLog : Option (List ℕ) → ℕ → ℕ → Result (List Entry × Ending) Unheld → Type 0
+ReadsLog held before now (Ok read) = HoldsLog held read.0 read.1
+ReadsLog held before now (Err (unheld.Refused reason)) = ⊥
+ReadsLog held before now (Err (unheld.ScriptRefused reason)) = ⊥
+ReadsLog held before now (Err (unheld.LogRefused reason)) = HoldsNoLog held reason
+ReadsLog held before now (Err (unheld.Stopped stop)) = IsStopOf before now stop
 
 -- the answer where a file gave nothing
 abbrev pub answer_without : Unheld → Result Answer Stop
 answer_without (unheld.Refused reason) = Ok (Refused reason)
 answer_without (unheld.ScriptRefused reason) = Ok (ScriptRefused reason)
+answer_without (unheld.LogRefused reason) = Ok (LogRefused reason)
 answer_without (unheld.Stopped stop) = Err stop
 
 -- the definition of workingstep n of the project, or that it has none such
@@ -125,6 +153,30 @@ OrReplayStops name script schedule before now Is (Ok a) = Is a
 OrReplayStops name script schedule before now Is (Err stops.ReadFault) =
     Rose (before name) (now name) ⊎ (((is_hyphen script ≡ false) × Rose (before script) (now script)) ⊎ ((is_hyphen schedule ≡ false) × Rose (before schedule) (now schedule)))
 OrReplayStops name script schedule before now Is (Err stops.NoMemory) = Unit {0}
+
+-- what is found of the log in a file, by the project and these edits
+abbrev pub Judges : Option (List ℕ) → Project → List Edit → Answer → Type 0
+Judges held p edits (LogRefused reason) = HoldsNoLog held reason
+Judges held p edits (Legal ending) = (t : List Entry) × HoldsLog held t ending × IsLegalSo (rules_of p.entities edits) t ending
+Judges held p edits (Illegal place) =
+    (t : List Entry) × (ending : Ending) × HoldsLog held t ending × (IsFirstMisfit (rules_of p.entities edits) t place ⊎ IsEndedWrong (rules_of p.entities edits) t ending place)
+Judges held p edits _ = ⊥
+
+-- what comes of a check by the project in the file of this name and the script that a word names, of the log in the file of another name
+abbrev pub Checks : (List ℕ → Option (List ℕ)) → List ℕ → List ℕ → List ℕ → Answer → Type 0
+Checks holds name script log (Refused reason) = IsRefusedFile (holds name) reason
+Checks holds name script log (ScriptRefused reason) = (p : Project) × HoldsProject holds name p × IsUnscripted holds script reason
+Checks holds name script log (LogRefused reason) = (p : Project) × HoldsProject holds name p × (edits : List Edit) × IsScripted holds script edits × Judges (holds log) p edits (LogRefused reason)
+Checks holds name script log (Legal ending) = (p : Project) × HoldsProject holds name p × (edits : List Edit) × IsScripted holds script edits × Judges (holds log) p edits (Legal ending)
+Checks holds name script log (Illegal place) = (p : Project) × HoldsProject holds name p × (edits : List Edit) × IsScripted holds script edits × Judges (holds log) p edits (Illegal place)
+Checks holds name script log _ = ⊥
+
+-- or why nothing does: one of the three files failed, or memory ran out
+abbrev pub OrCheckStops : List ℕ → List ℕ → List ℕ → (List ℕ → ℕ) → (List ℕ → ℕ) → (Answer → Type 0) → Result Answer Stop → Type 0
+OrCheckStops name script log before now Is (Ok a) = Is a
+OrCheckStops name script log before now Is (Err stops.ReadFault) =
+    Rose (before name) (now name) ⊎ (((is_hyphen script ≡ false) × Rose (before script) (now script)) ⊎ Rose (before log) (now log))
+OrCheckStops name script log before now Is (Err stops.NoMemory) = Unit {0}
 
 -- what comes of the path of workingstep n in a file
 abbrev pub Shows : Option (List ℕ) → ℕ → Answer → Type 0

@@ -1,8 +1,8 @@
 -- What the words of a command ask for, read word by word.
 use Rattle.std.specs.Prelude.{◌≡◌, ℕ, Bool, true, false, List, slice_get, Option, Some, None, Result, Ok, Err}
 use Rattle.controller.specs.declared.command.Command.{Command}
-use Rattle.controller.specs.declared.command.Command.TheVariants.{Replay, Path, Big, Help, Version}
-use Rattle.controller.specs.Words.{Form, help_line, version_line, is_line, IsReplay, IsPath, IsBig, AreBadAt}
+use Rattle.controller.specs.declared.command.Command.TheVariants.{Replay, Path, Big, Check, Help, Version}
+use Rattle.controller.specs.Words.{Form, help_line, version_line, is_line, IsReplay, IsPath, IsBig, IsCheck, AreBadAt}
 
 -- a word stands there, and it is of the form
 abbrev pub is_some_of : Form → Option (List ℕ) → Bool
@@ -22,6 +22,7 @@ abbrev pub Ask : List (List ℕ) → Result Command ℕ → Type 0
 Ask ws (Ok (Replay project script schedule limit)) = IsReplay ws project.now script.now schedule.now limit
 Ask ws (Ok (Path project step)) = IsPath ws project.now step
 Ask ws (Ok (Big steps start)) = IsBig ws steps start
+Ask ws (Ok (Check project script log)) = IsCheck ws project.now script.now log.now
 Ask ws (Ok Help) = is_line ws help_line ≡ true
 Ask ws (Ok Version) = is_line ws version_line ≡ true
 Ask ws (Err place) = AreBadAt ws place

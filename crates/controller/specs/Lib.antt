@@ -8,6 +8,7 @@ pub mod Codes
 pub mod Outside
 pub mod ScriptText
 pub mod ScheduleText
+pub mod LogFile
 pub mod Counts
 pub mod Case
 pub mod Asked

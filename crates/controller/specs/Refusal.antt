@@ -1,4 +1,4 @@
--- The lines of refusals, of a project, of a script and of a schedule, after this profile: the reason's name and its numbers.
+-- The lines of refusals, of a project, of a script, of a schedule and of a log, after this profile: the reason's name and its numbers.
 use Rattle.std.specs.Prelude.{ℕ, List, ◌++◌, codes, decimal}
 use Rattle.p21_lex.specs.declared.error.LexErr.{LexErr}
 use Rattle.p21_lex.specs.declared.error.LexErr.TheVariants as lexes
@@ -18,6 +18,8 @@ use Rattle.edit_script.specs.declared.error.ScriptErr.{ScriptErr}
 use Rattle.edit_script.specs.declared.error.ScriptErr.TheVariants as edits
 use Rattle.controller.specs.declared.status.ScriptReason.{ScriptReason}
 use Rattle.controller.specs.declared.status.ScriptReason.TheVariants as script
+use Rattle.controller.specs.declared.status.LogReason.{LogReason}
+use Rattle.controller.specs.declared.status.LogReason.TheVariants as logs
 use Rattle.controller.specs.Texts.{row}
 
 -- a name with a number behind it
@@ -109,3 +111,11 @@ script_text (script.Schedule place) = one (codes "Schedule") place
 
 abbrev pub script_line : ScriptReason → List ℕ
 script_line reason = row (codes "refused " ++ script_text reason)
+
+abbrev pub log_text : LogReason → List ℕ
+log_text logs.TooLong = codes "TooLong"
+log_text (logs.BadLine l) = one (codes "BadLine") l
+log_text logs.NoEnd = codes "NoEnd"
+
+abbrev pub log_line : LogReason → List ℕ
+log_line reason = row (codes "refused " ++ log_text reason)

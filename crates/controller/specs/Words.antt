@@ -46,6 +46,9 @@ path_line = bytes_eq (codes "path") ∷ is_name ∷ is_step ∷ []
 abbrev pub big_line : List Form
 big_line = bytes_eq (codes "big") ∷ is_steps ∷ is_start ∷ []
 
+abbrev pub check_line : List Form
+check_line = bytes_eq (codes "check") ∷ is_name ∷ is_name ∷ is_name ∷ []
+
 abbrev pub help_line : List Form
 help_line = bytes_eq (codes "--help") ∷ []
 
@@ -53,7 +56,7 @@ abbrev pub version_line : List Form
 version_line = bytes_eq (codes "--version") ∷ []
 
 abbrev pub table : List (List Form)
-table = replay_line ∷ path_line ∷ big_line ∷ help_line ∷ version_line ∷ []
+table = replay_line ∷ path_line ∷ big_line ∷ check_line ∷ help_line ∷ version_line ∷ []
 
 -- the words begin the line
 abbrev pub begins : List (List ℕ) → List Form → Bool
@@ -96,21 +99,33 @@ abbrev pub IsBig : List (List ℕ) → ℕ → ℕ → Type 0
 IsBig (w0 ∷ w1 ∷ w2 ∷ []) steps start = (is_line (w0 ∷ w1 ∷ w2 ∷ []) big_line ≡ true) × (value_of w1 ≡ steps) × (value_of w2 ≡ start)
 IsBig _ steps start = ⊥
 
+-- the words are those of a check of the log in this file, by this project file and this word for its script
+abbrev pub IsCheck : List (List ℕ) → List ℕ → List ℕ → List ℕ → Type 0
+IsCheck (w0 ∷ w1 ∷ w2 ∷ w3 ∷ []) name script log = (is_line (w0 ∷ w1 ∷ w2 ∷ w3 ∷ []) check_line ≡ true) × (w1 ≡ name) × (w2 ≡ script) × (w3 ≡ log)
+IsCheck _ name script log = ⊥
+
 -- the words name this project file to read
 abbrev pub NamesProject : List (List ℕ) → List ℕ → Type 0
-NamesProject ws name = ((script schedule : List ℕ) × (limit : ℕ) × IsReplay ws name script schedule limit) ⊎ ((n : ℕ) × IsPath ws name n)
+NamesProject ws name =
+    ((script schedule : List ℕ) × (limit : ℕ) × IsReplay ws name script schedule limit) ⊎ (((n : ℕ) × IsPath ws name n) ⊎ ((script log : List ℕ) × IsCheck ws name script log))
 
 -- the words name this script file to read
 abbrev pub NamesScript : List (List ℕ) → List ℕ → Type 0
-NamesScript ws name = (project schedule : List ℕ) × (limit : ℕ) × IsReplay ws project name schedule limit × (is_hyphen name ≡ false)
+NamesScript ws name =
+    ((project schedule : List ℕ) × (limit : ℕ) × IsReplay ws project name schedule limit × (is_hyphen name ≡ false))
+    ⊎ ((project log : List ℕ) × IsCheck ws project name log × (is_hyphen name ≡ false))
 
 -- the words name this schedule file to read
 abbrev pub NamesSchedule : List (List ℕ) → List ℕ → Type 0
 NamesSchedule ws name = (project script : List ℕ) × (limit : ℕ) × IsReplay ws project script name limit × (is_hyphen name ≡ false)
 
+-- the words name this file of a log to read
+abbrev pub NamesLog : List (List ℕ) → List ℕ → Type 0
+NamesLog ws name = (project script : List ℕ) × IsCheck ws project script name
+
 -- the words name this file to read
 abbrev pub Names : List (List ℕ) → List ℕ → Type 0
-Names ws name = NamesProject ws name ⊎ (NamesScript ws name ⊎ NamesSchedule ws name)
+Names ws name = NamesProject ws name ⊎ (NamesScript ws name ⊎ (NamesSchedule ws name ⊎ NamesLog ws name))
 
 -- the words name no file to read
 abbrev pub NameNoFile : List (List ℕ) → Type 0

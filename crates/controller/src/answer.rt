@@ -6,12 +6,12 @@ ghost use Rattle.nc_outside.specs.Outside.{Rose, Appends, AppendsFront};
 ghost use Rattle.path_blocks.specs.Path.{path_of};
 ghost use Rattle.run_log.specs.BlocksText.{blocks_text};
 ghost use Rattle.run_log.specs.LogText.{text_of};
-ghost use Rattle.controller.specs.Texts.{bad_words_line, help_text, version_text};
+ghost use Rattle.controller.specs.Texts.{bad_words_line, legal_line, illegal_line, help_text, version_text};
 ghost use Rattle.controller.specs.Answer.{answer_text, answer_status};
 
 use crate::counting::{Counts, counts_line};
-use crate::refusal::{refusal_line, script_line};
-use crate::status::{ScriptReason, Status};
+use crate::refusal::{log_line, refusal_line, script_line};
+use crate::status::{LogReason, ScriptReason, Status};
 use nc_base::{Line, put, put_number};
 use nc_outside::{Failed, Sink, put_all};
 use path_blocks::Plan;
@@ -42,6 +42,12 @@ pub enum Answer {
         ending: Ending,
         counts: Counts,
     },
+    /// The log is legal with this ending.
+    Legal(Ending),
+    /// The log is illegal at this place.
+    Illegal(u32),
+    /// The file of the log holds none.
+    LogRefused(LogReason),
 }
 
 /// Why there is no answer.
@@ -65,6 +71,8 @@ const HELP: &[u8] = b"stepnc runs a STEP-NC project and writes its run log.\n\
     stepnc big STEPS START\n      \
     makes a project of STEPS workingsteps (1 to 1000) and a script of edits, drawn\n      \
     from START (0 to 9999999) on, runs them, and writes what their log counts\n  \
+    stepnc check PROJECT SCRIPT LOG\n      \
+    says whether the file LOG holds a legal run of the project and the script\n  \
     stepnc --help\n      \
     writes this text\n  \
     stepnc --version\n      \
@@ -73,8 +81,8 @@ const HELP: &[u8] = b"stepnc runs a STEP-NC project and writes its run log.\n\
     For example: stepnc replay examples/drilled_hole.stp - - 100\n\
     \n\
     Exit status: 0 done or written, 1 blocked, 2 stopped at the limit, 3 bad words,\n\
-    4 project refused, 5 script or schedule refused, 7 file not read,\n\
-    8 output not taken, 9 out of memory.\n";
+    4 project refused, 5 script or schedule refused, 6 log illegal or refused,\n\
+    7 file not read, 8 output not taken, 9 out of memory.\n";
 
 /// Which program this is.
 const VERSION: &[u8] = b"stepnc 0.1.0\n";
@@ -85,6 +93,28 @@ fn bad_words(place: u32) -> Line
 {
     let mut line = Line::new();
     put(&mut line, b"refused BadWords");
+    put_number(&mut line, place);
+    put(&mut line, b"\n");
+    line
+}
+
+/// The line of a log that is legal with this ending.
+fn legal_line(ending: Ending) -> &'static [u8]
+    ensures { result.now ≡ legal_line ending }
+{
+    match ending {
+        Ending::Done => b"legal done\n".as_slice(),
+        Ending::Blocked => b"legal blocked\n",
+        Ending::Limit => b"legal limit\n".as_slice(),
+    }
+}
+
+/// The line of a log that is illegal at a place.
+fn illegal_line(place: u32) -> Line
+    ensures { result.items ≡ illegal_line place }
+{
+    let mut line = Line::new();
+    put(&mut line, b"illegal");
     put_number(&mut line, place);
     put(&mut line, b"\n");
     line
@@ -117,13 +147,18 @@ impl Answer {
     {
         match self {
             Answer::BadWords(place) => Status::BadWords(*place),
-            Answer::Help | Answer::Version | Answer::Shown(_) | Answer::Counted { .. } =>
-                Status::Written,
+            Answer::Help
+            | Answer::Version
+            | Answer::Shown(_)
+            | Answer::Counted { .. }
+            | Answer::Legal(_) => Status::Written,
             Answer::Refused(reason) => Status::ProjectRefused(*reason),
             Answer::ScriptRefused(reason) => Status::ScriptRefused(*reason),
             Answer::Ran(_, Ending::Done) => Status::Done,
             Answer::Ran(_, Ending::Blocked) => Status::Blocked,
             Answer::Ran(_, Ending::Limit) => Status::RunLimit,
+            Answer::Illegal(place) => Status::Illegal(*place),
+            Answer::LogRefused(reason) => Status::LogRefused(*reason),
         }
     }
 
@@ -151,6 +186,9 @@ impl Answer {
                 sink,
                 counts_line(*steps, *start, *ending, *counts).as_slice(),
             ),
+            Answer::Legal(ending) => put_all(sink, legal_line(*ending)),
+            Answer::Illegal(place) => put_all(sink, illegal_line(*place).as_slice()),
+            Answer::LogRefused(reason) => put_all(sink, log_line(*reason).as_slice()),
         }
     }
 }

@@ -43,6 +43,12 @@ pub enum Command<'a> {
         steps: u32,
         start: u32,
     },
+    /// To judge the log in one file by the project in another and the script that a word names.
+    Check {
+        project: &'a NcText,
+        script: &'a NcText,
+        log: &'a NcText,
+    },
     /// To say which commands there are.
     Help,
     /// To say which program this is.
@@ -190,6 +196,22 @@ fn big_of(words: &[NcText]) -> Result<Command<'_>, u32>
     Ok(Command::Big { steps, start })
 }
 
+/// What words ask for whose first is `check`.
+fn check_of(words: &[NcText]) -> Result<Command<'_>, u32>
+    requires { has_word words.now 0 (bytes_eq (codes "check")) ≡ true }
+    ensures { Ask words.now result }
+{
+    let project = name_at(words, 1)?;
+    let script = name_at(words, 2)?;
+    let log = name_at(words, 3)?;
+    end_at(words, 4)?;
+    Ok(Command::Check {
+        project,
+        script,
+        log,
+    })
+}
+
 /// What words ask for whose first is `--help`.
 fn help_of(words: &[NcText]) -> Result<Command<'_>, u32>
     requires { has_word words.now 0 (bytes_eq (codes "--help")) ≡ true }
@@ -222,6 +244,8 @@ pub fn command_of(words: &[NcText]) -> Result<Command<'_>, u32>
         path_of(words)
     } else if is_at(words, 0, b"big") {
         big_of(words)
+    } else if is_at(words, 0, b"check") {
+        check_of(words)
     } else if is_at(words, 0, b"--help") {
         help_of(words)
     } else if is_at(words, 0, b"--version") {

@@ -7,6 +7,8 @@ ghost use Rattle.controller.specs.Asked.{IsRight};
 ghost use Rattle.controller.specs.Told.{IsTold};
 
 use edit_script::script_laws;
+use log_check::a_log_has_one_answer;
+use log_read::log_laws;
 use project_read::project_laws;
 
 /// Words mean one command with what it names, or are bad at one place: one of these, and never two. It does nothing.
@@ -26,4 +28,6 @@ pub fn answer_laws()
     word_laws();
     project_laws();
     script_laws();
+    log_laws();
+    a_log_has_one_answer();
 }

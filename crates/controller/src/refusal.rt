@@ -1,10 +1,10 @@
-//! The lines that say why a project, a script or a schedule is refused.
+//! The lines that say why a project, a script, a schedule or a log is refused.
 
 ghost use Rattle.std.specs.Prelude.{◌≡◌, ◌+◌, ◌≤◌, ◌++◌, ◌∷◌, length, decimal};
 ghost use Rattle.arrayvec.specs.ArrayVec.{array_vec_len};
-ghost use Rattle.controller.specs.Refusal.{one, two, three, lex_text, read_text, type_text, store_text, tree_text, fault_text, reason_text, refusal_line, edits_text, script_text, script_line};
+ghost use Rattle.controller.specs.Refusal.{one, two, three, lex_text, read_text, type_text, store_text, tree_text, fault_text, reason_text, refusal_line, edits_text, script_text, script_line, log_text, log_line};
 
-use crate::status::ScriptReason;
+use crate::status::{LogReason, ScriptReason};
 use edit_script::ScriptErr;
 use entity_read::TypeErr;
 use exec_tree::TreeErr;
@@ -221,6 +221,30 @@ pub fn script_line(reason: ScriptReason) -> Line
     let mut line = Line::new();
     put(&mut line, b"refused ");
     put_script(&mut line, reason);
+    put(&mut line, b"\n");
+    line
+}
+
+/// Puts the name and the number of a reason at the line's end.
+fn put_log(line: &mut Line, reason: LogReason)
+    requires { array_vec_len line.old + 60 ≤ 256 }
+    ensures items { line.new.items ≡ line.old.items ++ log_text reason }
+    ensures len { array_vec_len line.new ≤ array_vec_len line.old + 60 }
+{
+    match reason {
+        LogReason::TooLong => put(line, b"TooLong"),
+        LogReason::BadLine(number) => put_one(line, b"BadLine", number),
+        LogReason::NoEnd => put(line, b"NoEnd"),
+    }
+}
+
+/// The line that says why a file holds no log.
+pub fn log_line(reason: LogReason) -> Line
+    ensures { result.items ≡ log_line reason }
+{
+    let mut line = Line::new();
+    put(&mut line, b"refused ");
+    put_log(&mut line, reason);
     put(&mut line, b"\n");
     line
 }

@@ -17,6 +17,17 @@ pub enum ScriptReason {
     Schedule(u32),
 }
 
+/// Why a file that a check names holds no log.
+#[derive(Clone, Copy, Debug, PartialEq, Eq)]
+pub enum LogReason {
+    /// It has more than 268,435,456 bytes.
+    TooLong,
+    /// The first line, counted from 1, that isn't in its place.
+    BadLine(u32),
+    /// Every line is in its place, and none is the last one.
+    NoEnd,
+}
+
 /// How a command ended.
 #[derive(Clone, Copy, Debug, PartialEq, Eq)]
 pub enum Status {
@@ -34,6 +45,11 @@ pub enum Status {
     ProjectRefused(ProjectReason),
     /// The script or the schedule is refused.
     ScriptRefused(ScriptReason),
+    /// The log is no legal run with the ending that it names: the place, counted from 0, of the first entry that doesn't fit those before it, or
+    /// the number of the entries where only the ending is wrong.
+    Illegal(u32),
+    /// The file of the log holds none.
+    LogRefused(LogReason),
     /// A file that the words name could not be read. Nothing is written.
     ReadFault,
     /// The sink failed. It has a front of what was to be written.
@@ -54,6 +70,7 @@ impl Status {
             Status::BadWords(_) => 3,
             Status::ProjectRefused(_) => 4,
             Status::ScriptRefused(_) => 5,
+            Status::Illegal(_) | Status::LogRefused(_) => 6,
             Status::ReadFault => 7,
             Status::WriteFault => 8,
             Status::NoMemory => 9,

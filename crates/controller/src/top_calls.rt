@@ -8,6 +8,7 @@ ghost use Rattle.controller.specs.Calls.{AnswersOrStops, IsPut};
 ghost use Rattle.controller.specs.Words.{NameNoFile};
 
 use crate::answer::{Answer, Stop};
+use crate::checking::check_files;
 use crate::command::{Command, command_of};
 use crate::large_case::count_case;
 use crate::laws::word_laws;
@@ -15,6 +16,8 @@ use crate::replaying::replay_files;
 use crate::showing::show_file;
 use crate::status::Status;
 use edit_script::script_laws;
+use log_check::a_log_has_one_answer;
+use log_read::log_laws;
 use nc_base::NcText;
 use nc_outside::{Files, Gate, Sink};
 use project_read::project_laws;
@@ -38,6 +41,13 @@ fn answer_to<F: Files>(alloc: Global, words: &[NcText], files: &mut F) -> Result
         ) => replay_files(alloc, project, script, schedule, limit, files),
         Ok(Command::Path { project, step }) => show_file(alloc, project, step, files),
         Ok(Command::Big { steps, start }) => count_case(alloc, steps, start),
+        Ok(
+            Command::Check {
+                project,
+                script,
+                log,
+            },
+        ) => check_files(alloc, project, script, log, files),
         Ok(Command::Help) => Ok(Answer::Help),
         Ok(Command::Version) => Ok(Answer::Version),
         Err(place) => Ok(Answer::BadWords(place)),
@@ -67,7 +77,7 @@ fn serve<F: Files, S: Sink>(alloc: Global, words: &[NcText], files: &mut F, sink
 }
 
 /// Does what the words ask for: it needs neither threads nor a wait, and always returns. What it answers and has written is right for the
-/// words and the files: of a project and a script of edits the log of their run under the schedule, which is a legal run. Where the words and the files that they
+/// words and the files: of a project and a script of edits the log of their run under the schedule, which is a legal run, and of a log whether it is one. Where the words and the files that they
 /// name are good, and neither they nor the sink failed, a replay is written whole, and its status says how the run ends, unless memory ran out.
 pub fn quick<F: Files, S: Sink>(
     alloc: Global,
@@ -81,6 +91,8 @@ pub fn quick<F: Files, S: Sink>(
     word_laws();
     project_laws();
     script_laws();
+    log_laws();
+    a_log_has_one_answer();
     serve(alloc, words, files, sink)
 }
 

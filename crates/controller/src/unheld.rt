@@ -4,7 +4,7 @@ ghost use Rattle.std.specs.Prelude.{◌≡◌};
 ghost use Rattle.controller.specs.Calls.{answer_without};
 
 use crate::answer::{Answer, Stop};
-use crate::status::ScriptReason;
+use crate::status::{LogReason, ScriptReason};
 use project_read::ProjectReason;
 
 /// Why a file gave nothing.
@@ -14,6 +14,8 @@ pub enum Unheld {
     Refused(ProjectReason),
     /// It is no script, or no schedule.
     ScriptRefused(ScriptReason),
+    /// It holds no log.
+    LogRefused(LogReason),
     /// What it holds isn't known: it could not be read, or memory ran out.
     Stopped(Stop),
 }
@@ -26,6 +28,7 @@ impl Unheld {
         match self {
             Unheld::Refused(reason) => Ok(Answer::Refused(reason)),
             Unheld::ScriptRefused(reason) => Ok(Answer::ScriptRefused(reason)),
+            Unheld::LogRefused(reason) => Ok(Answer::LogRefused(reason)),
             Unheld::Stopped(stop) => Err(stop),
         }
     }

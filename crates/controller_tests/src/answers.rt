@@ -7,7 +7,7 @@ use crate::projects::{
     FACE, FACE_PATH, HOLE, HOLE_LOG, HOLE_LOG_OF_SEVEN, HOLE_PATH, PLATE, POCKET, POCKET_PATH,
     TWO_HOLES,
 };
-use controller::{ScriptReason, Status};
+use controller::{LogReason, ScriptReason, Status};
 use nc_base::NoMemory;
 use nc_outside::{MemoryFiles, MemorySink};
 use project_read::ProjectReason;
@@ -287,7 +287,7 @@ macro_rules! bad {
     };
 }
 
-const BAD_WORDS: [Row; 35] = [
+const BAD_WORDS: [Row; 43] = [
     bad!([], 0),
     bad!(["fly"], 0),
     bad!(["replay"], 1),
@@ -321,6 +321,14 @@ const BAD_WORDS: [Row; 35] = [
     bad!(["big", "1", "10000000"], 2),
     bad!(["big", "1", "x"], 2),
     bad!(["big", "1", "0", "0"], 3),
+    bad!(["check"], 1),
+    bad!(["check", "plate.stp"], 2),
+    bad!(["check", "plate.stp", "-"], 3),
+    bad!(["check", "", "-", "log"], 1),
+    bad!(["check", "plate.stp", "", "log"], 2),
+    bad!(["check", "plate.stp", "-", ""], 3),
+    bad!(["check", "plate.stp", "-", "log", "100"], 4),
+    bad!(["check", "plate.stp", "-", "log", "-", "-"], 4),
     bad!(["--help", "me"], 1),
     bad!(["--version", "me"], 1),
 ];
@@ -600,6 +608,8 @@ fn statuses_have_their_codes(rt: HostRuntime) {
         (Status::ProjectRefused(ProjectReason::NoStep(7)), 4),
         (Status::ScriptRefused(ScriptReason::TooLong), 5),
         (Status::ScriptRefused(ScriptReason::Schedule(2)), 5),
+        (Status::Illegal(5), 6),
+        (Status::LogRefused(LogReason::BadLine(3)), 6),
         (Status::ReadFault, 7),
         (Status::WriteFault, 8),
         (Status::NoMemory, 9),

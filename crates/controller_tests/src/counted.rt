@@ -145,7 +145,7 @@ fn expect_pieces(
 }
 
 /// Words, and the names that they give to be read.
-const READS: [(&[&str], &[&str]); 19] = [
+const READS: [(&[&str], &[&str]); 26] = [
     (&REPLAY, &["plate.stp"]),
     (&PATH, &["plate.stp"]),
     (&["path", "plate.stp", "20"], &["plate.stp"]),
@@ -186,6 +186,22 @@ const READS: [(&[&str], &[&str]); 19] = [
     ),
     (&["replay", "plate.stp", "", "-", "7"], &[]),
     (&["path", "plate.stp", "0"], &[]),
+    (
+        &["check", "plate.stp", "edits", "log"],
+        &["plate.stp", "edits", "log"],
+    ),
+    (&["check", "plate.stp", "-", "log"], &["plate.stp", "log"]),
+    (
+        &["check", "plate.stp", "-", "plate.stp"],
+        &["plate.stp", "plate.stp"],
+    ),
+    (&["check", "plate.stp", "-", "-"], &["plate.stp", "-"]),
+    (
+        &["check", "plate.stp", "missing", "log"],
+        &["plate.stp", "missing"],
+    ),
+    (&["check", "missing.stp", "edits", "log"], &["missing.stp"]),
+    (&["check", "plate.stp", "-", ""], &[]),
     (&BIG, &[]),
     (&["--help"], &[]),
     (&["--version"], &[]),
@@ -231,7 +247,7 @@ fn a_refused_file_is_read_once_and_gives_one_line(rt: HostRuntime) -> Result<(),
 }
 
 /// What `plate.stp` holds, words, and how many lines they write.
-const LINES: [(&str, &[&str], u32); 7] = [
+const LINES: [(&str, &[&str], u32); 8] = [
     (HOLE, &REPLAY, 10),
     (HOLE, &["replay", "plate.stp", "-", "-", "3"], 5),
     (HOLE, &PATH, 6),
@@ -239,6 +255,7 @@ const LINES: [(&str, &[&str], u32); 7] = [
     (HOLE, &["path", "plate.stp", "20"], 1),
     (HOLE, &["fly"], 1),
     (HOLE, &BIG, 1),
+    (HOLE, &["check", "plate.stp", "-", "plate.stp"], 1),
 ];
 
 #[test]

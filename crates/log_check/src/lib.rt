@@ -6,8 +6,6 @@
 //! | following | whether the next entry of a log fits | |
 //! | answer | what a check finds | `Answer` |
 //! | laws | a log has one answer | `a_log_has_one_answer` |
-//!
-//! No command of the program uses it yet.
 #![tactic(auto)]
 
 mod answer;

@@ -188,7 +188,7 @@ bad_answer Nothing (b ∷ rest) some = refl
 bad_answer (Begun t) (b ∷ rest) some = refl
 bad_answer (Ended t d) (b ∷ rest) some = refl
 
-text_comes : (bytes : List ℕ) (t : List Entry) (d : Ending) → IsTextOf bytes t d → Comes bytes (Ok (t, d))
+pub text_comes : (bytes : List ℕ) (t : List Entry) (d : Ending) → IsTextOf bytes t d → Comes bytes (Ok (t, d))
 unfolding answer_of
 text_comes bytes t d h = record {
   front = Ended t d;
@@ -197,12 +197,12 @@ text_comes bytes t d h = record {
   is = refl;
 }
 
-refusal_comes : (bytes : List ℕ) (e : LogErr) → IsRefused bytes e → Comes bytes (Err e)
+pub refusal_comes : (bytes : List ℕ) (e : LogErr) → IsRefused bytes e → Comes bytes (Err e)
 refusal_comes bytes (BadLine l) h = record { front = h.front; rest = h.rest; leaves = h.leaves; is = bad_answer h.front h.rest h.more ∙ ap (λ (n : ℕ). Err (BadLine n)) (sym h.line) }
 refusal_comes bytes NoEnd h = record { front = h.front; rest = []; leaves = leaves_at_end log_format log_lines_apart bytes h.front h.good h.text; is = open_answer h.front h.no_last }
 refusal_comes bytes NoMemory h = absurd h
 
-same_answer : (bytes : List ℕ) (p q : Result (List Entry × Ending) LogErr) → Comes bytes p → Comes bytes q → p ≡ q
+pub same_answer : (bytes : List ℕ) (p q : Result (List Entry × Ending) LogErr) → Comes bytes p → Comes bytes q → p ≡ q
 same_answer bytes p q a b =
     let w = one_front log_format log_lines_apart bytes a.front b.front a.rest b.rest a.leaves b.leaves in
     sym a.is ∙ ap (λ v. answer_of v a.rest) w.0 ∙ ap (λ (v : List ℕ). answer_of b.front v) w.1 ∙ b.is

@@ -5,3 +5,4 @@ pub mod RowsRead
 pub mod Places
 pub mod Answering
 pub mod Stepping
+pub mod OneReading

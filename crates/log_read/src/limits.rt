@@ -1,4 +1,7 @@
-//! The ranges of a log's numbers that no lower crate names (this profile).
+//! The ranges of a log's numbers that no lower crate names, and the length of its text (this profile).
+
+/// How many bytes the text of a log has at most where it is read from a file.
+pub const MAX_LOG_BYTES: usize = 268_435_456;
 
 /// The greatest version of a workingstep: a script has at most 1,000 edits, each of which raises it by one at most.
 pub const MAX_VERSION: u32 = 1_000;

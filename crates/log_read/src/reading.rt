@@ -54,11 +54,22 @@ fn next_step(count: u32, rest: &[u8]) -> Result<Step<'_>, LogErr>
     }
 }
 
+/// Room for the entries of a text: as many as it has line feeds, or as a log may have. A list that grows would leave its smaller copies behind.
+fn room_for(text: &[u8]) -> u32 {
+    let mut room = 0;
+    for byte in text {
+        if *byte == b'\n' && room < MAX_ENTRIES {
+            room += 1;
+        }
+    }
+    room
+}
+
 /// The log of a text that goes on so behind its first line.
 fn lines(alloc: Global, text: &[u8]) -> Result<(Log, Ending), LogErr>
     ensures { Reads (first_line ++ text.now) result }
 {
-    let mut log = Log::new(alloc);
+    let mut log = Log::with_capacity(alloc, room_for(text))?;
     let mut rest = text;
     while !rest.is_empty() {
         match next_step(log.len(), rest)? {
@@ -87,7 +98,7 @@ fn log_in(alloc: Global, text: &[u8]) -> Result<(Log, Ending), LogErr>
 
 /// The log and the ending whose text this is: the line `STEPNC-LOG 1`, a line for each entry, of which there are at most `run_log::MAX_ENTRIES`, and
 /// a last line with the ending and their count. Each line ends with a line feed, single spaces part its words, numbers are plain decimal, and each is
-/// in the range that this profile gives it. Each byte is looked at once, and memory is taken for the entries alone.
+/// in the range that this profile gives it. Memory is taken for the entries alone, at once, by the count of the lines.
 ///
 /// # Errors
 /// `BadLine` with the first line, counted from 1, that isn't in its place; a line behind the last one never is. `NoEnd` where every line is in its

@@ -25,13 +25,21 @@ fn words_of(rt: HostRuntime) -> Result<Vec<NcText>, NoMemory> {
     Ok(words)
 }
 
+/// What a person calls the fourth word of a command that names a file by it: the log of a check, and else a schedule.
+fn last_kind(words: &[NcText]) -> &'static str {
+    match words {
+        [command, ..] if command.bytes() == b"check".as_slice() => "log",
+        _ => "schedule",
+    }
+}
+
 /// What a person calls the file of a command that was the last of so many to be asked for, and its name: the project is the second word of
-/// each command that reads one, its script, which is read behind it unless the word is a hyphen, the third, and its schedule, which is read last,
-/// the fourth.
+/// each command that reads one, its script, which is read behind it unless the word is a hyphen, the third, and its schedule or its log, which is
+/// read last, the fourth.
 fn file_asked(words: &[NcText], asked: u8) -> (&str, &str) {
     let (kind, name) = match (words, asked) {
         ([_, _, script, ..], 2) if script.bytes() != b"-".as_slice() => ("script", script),
-        ([_, _, _, schedule, ..], 2 | 3) => ("schedule", schedule),
+        ([_, _, _, last, ..], 2 | 3) => (last_kind(words), last),
         ([_, project, ..], _) => ("project", project),
         _ => return ("project", "?"),
     };
@@ -61,6 +69,8 @@ fn tell(rt: HostRuntime, words: &[NcText], status: Status, asked: u8, said: Opti
         | Status::RunLimit
         | Status::Written
         | Status::ProjectRefused(_)
+        | Status::Illegal(_)
+        | Status::LogRefused(_)
         | Status::ScriptRefused(_) => Ok(()),
     };
 }

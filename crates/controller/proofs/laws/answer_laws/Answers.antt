@@ -10,5 +10,9 @@ returns c =
       one_script = c.script_laws.ensures.one;
       no_fault = c.script_laws.ensures.apart;
       one_fault = c.script_laws.ensures.single;
+      one_log = c.log_laws.ensures.one;
+      no_log_refusal = c.log_laws.ensures.apart;
+      one_log_refusal = c.log_laws.ensures.single;
+      one_finding = c.a_log_has_one_answer.ensures;
     } in
     one_answer c.word_laws.ensures.one laws

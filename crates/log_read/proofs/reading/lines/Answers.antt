@@ -9,7 +9,7 @@ next_step-requires-clause-few c = omega (arith, few_read _ _ _ c.loop-rest.invar
 
 pub returns-in_err-entry : goal.returns-in_err-entry
 returns-in_err-entry c =
-    let p = err_from_is_err_and c.from_residual.result c.from_residual.ensures.1 in
+    let p = err_from_is_err_and c.from_residual-in_err-entry.result c.from_residual-in_err-entry.ensures.1 in
     rw (p.1, p.2) (refusal_reads _ c.in_err-entry.field-0.0 (c.in_err-entry.ensures _ _ (sym c.len.ensures) c.loop-rest.invariant))
 
 pub loop-rest-smaller : goal.loop-rest-smaller
