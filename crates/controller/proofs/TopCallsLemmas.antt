@@ -205,19 +205,23 @@ check_right ws holds name script log (answers.Ran t ending) asked is = absurd is
 check_right ws holds name script log (answers.Shown d) asked is = absurd is
 check_right ws holds name script log (answers.Counted n from ending counts) asked is = absurd is
 check_right ws holds name script log (answers.Legal ending) asked is =
-    inr (inr (inl (ending, record {
-      name = name;
-      script = script;
-      log = log;
-      asked = asked;
-      project = is.0;
-      held = is.1;
-      edits = is.2;
-      scripted = is.3;
-      t = is.4.0;
-      logged = is.4.1;
-      legal = is.4.2;
-    }, refl)))
+    inr (inr (inl (
+      ending,
+      record {
+        name = name;
+        script = script;
+        log = log;
+        asked = asked;
+        project = is.0;
+        held = is.1;
+        edits = is.2;
+        scripted = is.3;
+        t = is.4.0;
+        logged = is.4.1;
+        legal = is.4.2;
+      },
+      refl,
+    )))
 check_right ws holds name script log (answers.Illegal place) asked is = (
   record {
     name = name;

@@ -1,12 +1,11 @@
 //! What the program answers to words, and how it says so.
 
-ghost use Rattle.std.specs.Prelude.{◌≡◌, ◌+◌, ◌≤◌, ◌<◌, ◌^◌, ◌++◌, length, OnOk, OnErr};
-ghost use Rattle.arrayvec.specs.ArrayVec.{array_vec_len};
+ghost use Rattle.std.specs.Prelude.{◌≡◌, ◌+◌, ◌≤◌, ◌<◌, ◌^◌, ◌++◌, OnOk, OnErr};
 ghost use Rattle.nc_outside.specs.Outside.{Rose, Appends, AppendsFront};
 ghost use Rattle.path_blocks.specs.Path.{path_of};
 ghost use Rattle.run_log.specs.BlocksText.{blocks_text};
 ghost use Rattle.run_log.specs.LogText.{text_of};
-ghost use Rattle.controller.specs.Texts.{bad_words_line, legal_line, illegal_line, help_text, version_text};
+ghost use Rattle.controller.specs.Texts.{bad_words_line, legal_line, illegal_line};
 ghost use Rattle.controller.specs.Answer.{answer_text, answer_status};
 
 use crate::counting::{Counts, counts_line};

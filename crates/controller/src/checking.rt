@@ -1,6 +1,6 @@
 //! The check of a log.
 
-ghost use Rattle.std.specs.Prelude.{◌≡◌, ℕ, ◌≤◌, List, IfOk};
+ghost use Rattle.std.specs.Prelude.{◌≡◌, ℕ, ◌≤◌, List};
 ghost use Rattle.project_read.specs.Reads.{model_of};
 ghost use Rattle.controller.specs.Calls.{OrStops, Judges, OrCheckStops, Checks};
 

@@ -1,6 +1,6 @@
 //! The commands, as the words of a command line give them.
 
-ghost use Rattle.std.specs.Prelude.{◌≡◌, ◌<◌, ◌≤◌, ℕ, List, length, slice_get, true, false, codes, MatchOption, MatchResult, option_map, Ok};
+ghost use Rattle.std.specs.Prelude.{◌≡◌, ◌<◌, ◌≤◌, ℕ, List, length, slice_get, true, false, codes, MatchResult, option_map, Ok};
 ghost use Rattle.std.specs.Str.{bytes_eq};
 ghost use Rattle.controller.specs.Numerals.{value_of};
 ghost use Rattle.controller.specs.Words.{is_limit, is_step, is_steps, is_start, is_name};

@@ -1,6 +1,6 @@
 //! The lines that say why a project, a script, a schedule or a log is refused.
 
-ghost use Rattle.std.specs.Prelude.{◌≡◌, ◌+◌, ◌≤◌, ◌++◌, ◌∷◌, length, decimal};
+ghost use Rattle.std.specs.Prelude.{◌≡◌, ◌+◌, ◌≤◌, ◌++◌, ◌∷◌, length};
 ghost use Rattle.arrayvec.specs.ArrayVec.{array_vec_len};
 ghost use Rattle.controller.specs.Refusal.{one, two, three, lex_text, read_text, type_text, store_text, tree_text, fault_text, reason_text, refusal_line, edits_text, script_text, script_line, log_text, log_line};
 

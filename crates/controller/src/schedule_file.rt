@@ -1,6 +1,6 @@
 //! The schedule that a word names.
 
-ghost use Rattle.std.specs.Prelude.{◌≡◌, ℕ, ◌≤◌, ◌<◌, List, OnOk, IfOk, IsOk, All};
+ghost use Rattle.std.specs.Prelude.{◌≡◌, ℕ, ◌≤◌, ◌<◌, List};
 ghost use Rattle.controller.specs.Calls.{ReadsSchedule};
 
 use crate::answer::Stop;

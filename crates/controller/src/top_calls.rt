@@ -1,6 +1,6 @@
 //! The top calls: all that the program does.
 
-ghost use Rattle.std.specs.Prelude.{◌≡◌, ℕ, ◌≤◌, List, IfOk};
+ghost use Rattle.std.specs.Prelude.{◌≡◌, ℕ, ◌≤◌, List};
 ghost use Rattle.controller.specs.Answered.{Serves};
 ghost use Rattle.controller.specs.Outside.{outside};
 ghost use Rattle.controller.specs.Told.{IsComplete};

@@ -1,7 +1,6 @@
 //! How often files are read and pieces put: once for each name that the words give, in their order, and a line at a time.
 
-ghost use Rattle.std.specs.Prelude.{◌≡◌, ℕ, ◌≤◌, ◌<◌, List, [], length, Option};
-ghost use Rattle.nc_outside.specs.Outside.{Rose, Appends};
+ghost use Rattle.std.specs.Prelude.{◌≡◌, ℕ, ◌≤◌, ◌<◌, []};
 
 use crate::asked::{
     BIG, PATH, REPLAY, expect, files_with, replaced, status_of, texts, top_status_of,

@@ -3,9 +3,8 @@ use Rattle.std.proofs.Common.{◌≡◌, ℕ, List, Result, Ok, Err, ap}
 use Rattle.run_log.specs.declared.entry.Entry.{Entry}
 use Rattle.run_log.specs.declared.entry.Ending.{Ending}
 use Rattle.log_read.specs.declared.error.LogErr.{LogErr}
-use Rattle.log_read.specs.declared.error.LogErr.TheVariants.{BadLine, NoEnd, NoMemory}
 use Rattle.log_read.specs.LogReads.{IsTextOf, IsRefused}
-use Rattle.log_read.proofs.Answering.{Comes, text_comes, refusal_comes, same_answer}
+use Rattle.log_read.proofs.Answering.{text_comes, refusal_comes, same_answer}
 
 -- what a text gives
 abbrev Found : Type 0

@@ -1,6 +1,6 @@
 //! Entries, each from behind its letter up to the end of its line.
 
-ghost use Rattle.std.specs.Prelude.{◌≡◌, ◌≤◌, IfSome};
+ghost use Rattle.std.specs.Prelude.{◌≡◌, ◌≤◌};
 ghost use Rattle.std.specs.Option.{option_map};
 ghost use Rattle.log_read.specs.Reading.{assign_at, cut_at, dispatch_at, edit_at, end_at, note_at, one_at, pass_at, pick_at, refusal_at, set_at, test_at, two_at, verdict_at};
 

@@ -2,7 +2,7 @@
 
 ghost use Rattle.std.specs.Prelude.{◌≡◌};
 ghost use Rattle.std.specs.Option.{option_map};
-ghost use Rattle.log_read.specs.Reading.{bytes_at, ending_at, last_at, of_entry, row_at};
+ghost use Rattle.log_read.specs.Reading.{ending_at, last_at, of_entry, row_at};
 
 use crate::entries::{assign, cut, dispatch, edit, end, note, pass, pick, set, test};
 use crate::words::{byte, bytes, field};
