@@ -44,7 +44,8 @@ fn entry(word: &str) -> Result<Entry, Fail> {
     Ok(entry_of(letter, n.parse::<u32>()?, more.parse::<u32>()?))
 }
 
-fn entries(alloc: Global, words: &str) -> Result<Vec<Entry>, Fail> {
+/// The entries of words.
+pub(crate) fn entries(alloc: Global, words: &str) -> Result<Vec<Entry>, Fail> {
     let mut t = Vec::new(alloc);
     for word in words.split_whitespace() {
         t.push(entry(word)?)?;
@@ -52,7 +53,8 @@ fn entries(alloc: Global, words: &str) -> Result<Vec<Entry>, Fail> {
     Ok(t)
 }
 
-fn numbers(alloc: Global, words: &str) -> Result<Vec<Number>, Fail> {
+/// The numbers of words.
+pub(crate) fn numbers(alloc: Global, words: &str) -> Result<Vec<Number>, Fail> {
     let mut all = Vec::new(alloc);
     for word in words.split_whitespace() {
         all.push(word.parse::<u32>()?)?;

@@ -1,0 +1,2 @@
+pub mod StrayLemmas
+pub mod NextLemmas
