@@ -3,3 +3,4 @@ pub mod StepLemmas
 pub mod WindowLemmas
 pub mod StoreLemmas
 pub mod ChannelLemmas
+pub mod WindowMoves

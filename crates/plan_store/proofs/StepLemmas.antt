@@ -39,7 +39,7 @@ changed_none n f (x ∷ xs) h =
     let no = filter-no (is_step n) x xs in
     grind (arith, nat_tests)
 
-taken_none : (n : ℕ) (xs : List StepAhead) → length (filter (is_step n) xs) ≡ 0 → taken xs n ≡ xs
+pub taken_none : (n : ℕ) (xs : List StepAhead) → length (filter (is_step n) xs) ≡ 0 → taken xs n ≡ xs
 taken_none n [] h = refl
 taken_none n (x ∷ xs) h =
     let more = taken_none n xs in

@@ -6,11 +6,13 @@
 //! | ticket | tickets, what a planner is asked for, what it made | `Ticket`, `TicketState`, `Job`, `Made` |
 //! | store | the tickets with their plans: placed, handed out, kept, renewed, taken | `PlanStore` |
 //! | rows | looks at tickets in a row | |
+//! | laws | what each call does to the window of one channel, and that the windows tell all | `windows_move` |
 //!
 //! No call here takes memory. A channel has at most four tickets, so each call looks at 32 at most. The tests stand in the crate
 //! plan_tests.
 #![tactic(auto)]
 
+pub mod laws;
 mod limits;
 mod rows;
 mod store;

@@ -1,0 +1,4 @@
+pub mod NumberLemmas
+pub mod TurnLemmas
+pub mod RenewLemmas
+pub mod OpenLemmas
