@@ -331,17 +331,39 @@ def table_of_formats():
     return [f"{code} {keywords.replace(',', '')}: {used}".strip() for code, keywords, used in rows]
 
 
+def shown_files(block):
+    """The files that a block of commands writes: an answer that is kept by `>`, or a file in which `sed s/ONE/OTHER/` changes each line once."""
+    written = {}
+    for words, name in re.findall(r"^\$ (.*) >(\S+)$", block, re.M):
+        words = words.split()
+        if words[0] == "./stepnc":
+            written[name] = oracle.answer(words[1:], lambda file: page_file(file, written))[1]
+        elif words[0] == "sed":
+            _, one, other, _ = words[1].split("/")
+            lines = page_file(words[2], written).splitlines(True)
+            written[name] = b"".join(line.replace(one.encode(), other.encode(), 1) for line in lines)
+    return written
+
+
+def page_file(name, written):
+    """The bytes of a file that a page's command names: one that was written there before, or one of the repository."""
+    if name in written:
+        return written[name]
+    return (ROOT / name).read_bytes() if (ROOT / name).is_file() else None
+
+
 def shown_cases():
     """The commands shown in the pages with what they write there."""
     for page in PAGES:
         for block in re.findall(r"```\n(.*?)```", (ROOT / page).read_text(), re.S):
+            written = shown_files(block)
             for command, output in re.findall(r"^\$ \./stepnc (.*)\n((?:(?!\$ ).*\n)*)", block, re.M):
                 front = re.fullmatch(r"(.*) \| head -(\d+)", command)
                 without_blocks = re.fullmatch(r"(.*) \| grep -v \^B", command)
                 words = ((front or without_blocks).group(1) if front or without_blocks else command).split()
                 if any(mark in command for mark in "<>") or "| " in command and not (front or without_blocks):
                     continue
-                text = oracle.answer(words, lambda name: (ROOT / name).read_bytes() if (ROOT / name).is_file() else None)[1].decode()
+                text = oracle.answer(words, lambda name: page_file(name, written))[1].decode()
                 if front:
                     text = "".join(text.splitlines(True)[:int(front.group(2))])
                 if without_blocks:
